@@ -1,8 +1,8 @@
 -- What is asked for may want memory before it is done.
-use Rattle.std.proofs.Common.{◌≡◌, ℕ, ◌≤◌, List, drop, length, length-drop, refl, ◌+◌, ◌-◌, arith, subst, take, inl, inr}
+use Rattle.std.proofs.Common.{◌≡◌, ℕ, ◌≤◌, List, drop, length, length-drop, refl, ◌-◌, arith, subst, take, inl, inr}
 use Rattle.std.specs.Prelude.{◌⊎◌}
 use Rattle.std.proofs.lemmas.List.{take_all}
-use Rattle.hex_image.specs.HexText.{HexText}
+use Rattle.hex_image.specs.HexText.{HexText, end_line}
 use Rattle.line_reader.proofs.TextLaws.{front-short}
 use Rattle.byte_streams.specs.Streams.{Input, TakesAtMost}
 use Rattle.cli_words.specs.declared.job.Job.{Job}
@@ -16,7 +16,8 @@ took : (before now : Input) (text : List ℕ) → Gave before now text → Takes
 took before now text gave = (length text, gave.short, (text, refl, gave.taken))
 
 -- a text that was read, and judged or not for want of memory
-pub judged_text : (Rule : List ℕ → Job → Type 0) (before now : Input) (given text : List ℕ) (job : Job) → given ≡ text → Gave before now text → Rule given job ⊎ (job ≡ no_memory) → AsksByText Rule before now job
+pub judged_text : (Rule : List ℕ → Job → Type 0) (before now : Input) (given text : List ℕ) (job : Job) → given ≡ text → Gave before now text → Rule given job ⊎ (job ≡ no_memory)
+    → AsksByText Rule before now job
 judged_text Rule before now given text job same gave (inl asks) = inr (text, gave, subst (λ t. Rule t job) same asks)
 judged_text Rule before now given text job same gave (inr none) = inl (IsUnread.NoMemory none (took before now text gave))
 
@@ -43,7 +44,7 @@ memory_asked words before now job runs (inr none) = absurd (subst RunsAProgram n
 -- what stands behind some lines of a text stands in it
 pub position_inside : (text words : List ℕ) (position : ℕ) → HexText text words position → position ≤ length text
 position_inside text words position hex =
-    omega (arith, hex.cut, front-short (hex.before + 1) text)
+    omega (arith, hex.cut, front-short (end_line text) text)
 
 -- the part of a text from a place to its end is what stands behind that place
 pub rest_whole : (text : List ℕ) (position : ℕ) → take (length text - position) (drop position text) ≡ drop position text

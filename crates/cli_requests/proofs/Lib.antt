@@ -1,5 +1,4 @@
 -- Lemmas on what the text of a command asks for.
-pub mod ImageLength
 pub mod OneJob
 pub mod Judging
 pub mod Reasons

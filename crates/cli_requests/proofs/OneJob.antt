@@ -1,14 +1,13 @@
 -- What a text asks for is one thing.
 use Rattle.std.proofs.Common.{◌≡◌, ℕ, List, drop, arith, sym, ap, ap₂, ◌∙◌, subst}
-use Rattle.hex_image.specs.HexText.{HexBad, HexText}
-use Rattle.hex_image.proofs.LawLemmas.{never_both, same_fault, same_image}
+use Rattle.hex_image.specs.HexText.{HexText, hex_fault}
+use Rattle.hex_image.proofs.LawLemmas.{few_words, never_both, same_fault, same_image}
 use Rattle.hex_image.specs.declared.fault.HexFault.{HexFault}
-use Rattle.input_script.specs.Script.{Schedule, IsBad, IsScript}
+use Rattle.input_script.specs.Script.{Schedule, IsScript, script_fault}
 use Rattle.input_script.specs.declared.fault.ScriptFault.{ScriptFault}
-use Rattle.input_script.proofs.Judgement.{one_judgement}
-use Rattle.line_reader.specs.Lines.{lines_of}
+use Rattle.input_script.proofs.Judgement as scripts
 use Rattle.line_reader.proofs.FaultLaws as faults
-use Rattle.task_input.specs.Scripts.{IsFirst, Schedules}
+use Rattle.task_input.specs.Scripts.{Schedules, scripts_fault}
 use Rattle.task_input.proofs.FirstFaults.{first_one, schedules_apart, schedules_one}
 use Rattle.cli_words.specs.declared.command.Command.{Command}
 use Rattle.cli_words.specs.declared.command.Command.TheVariants.{Run, Dump, Restart, Tasks, Check, Asm}
@@ -36,7 +35,6 @@ use Rattle.cli_requests.specs.DumpCommand.{DumpAsks}
 use Rattle.cli_requests.specs.RestartCommand.{RestartAsks}
 use Rattle.cli_requests.specs.Asking.{Wanted, ByText, wanted}
 use Rattle.cli_requests.specs.TasksCommand.{IsPlaced, Refused, Placed, bad_image, TasksAsks}
-use Rattle.cli_requests.proofs.ImageLength.{few_words}
 
 -- one job is asked for
 abbrev pub IsOne : (Job → Type 0) → Type 0
@@ -49,7 +47,8 @@ record IsOnePart (V : Type 0) (Is : V → Type 0) (IsBad : ℕ → List ℕ → 
   apart : (a : V) (line : ℕ) (word : List ℕ) → Is a → ¬ IsBad line word
 
 -- so it asks for one job, where each thing that it may be does
-one_judged : (V : Type 0) (part : List ℕ) (Is : V → Type 0) (IsFaulty : ℕ → List ℕ → Type 0) (Then : V → Job → Type 0) → IsOnePart V Is IsFaulty → ((value : V) → Is value → IsOne (Then value)) → IsOne (IsJudged V part Is IsFaulty Then)
+one_judged : (V : Type 0) (part : List ℕ) (Is : V → Type 0) (IsFaulty : ℕ → List ℕ → Type 0) (Then : V → Job → Type 0) → IsOnePart V Is IsFaulty → ((value : V) → Is value → IsOne (Then value))
+    → IsOne (IsJudged V part Is IsFaulty Then)
 one_judged V part Is IsFaulty Then part_is then_is a b first second = elim first [
   | Bad line word bad is ↦ elim second [
     | Bad line' word' bad' is' ↦ let same = part_is.one_fault line line' word word' bad bad' in is ∙ ap₂ (bad_part part) same.0 same.1 ∙ sym is'
@@ -63,7 +62,7 @@ one_judged V part Is IsFaulty Then part_is then_is a b first second = elim first
 
 -- A HEX text, and a script. -------------------------------------------------------------------------------
 
-one_hex : (text : List ℕ) → IsOnePart (List ℕ × ℕ) (λ hex. HexText text hex.0 hex.1) (λ line word. (fault : HexFault) × HexBad text line fault × (word ≡ hex_word fault))
+one_hex : (text : List ℕ) → IsOnePart (List ℕ × ℕ) (λ hex. HexText text hex.0 hex.1) (λ line word. (fault : HexFault) × (hex_fault text ≡ Some (line, fault)) × (word ≡ hex_word fault))
 one_hex text = record {
   one = λ a b first second. let same = same_image text a.0 b.0 a.1 b.1 first second in ap₂ (λ words position. (words, position)) same.0 same.1;
   one_fault = λ line other word word' first second.
@@ -72,25 +71,25 @@ one_hex text = record {
   apart = λ a line word good bad. never_both text a.0 a.1 line bad.0 good bad.1;
 }
 
-one_script : (text : List ℕ) → IsOnePart Schedule (IsScript text) (λ line word. (fault : ScriptFault) × IsBad text line fault × (word ≡ script_word fault))
+one_script : (text : List ℕ) → IsOnePart Schedule (IsScript text) (λ line word. (fault : ScriptFault) × (script_fault text ≡ Some (line, fault)) × (word ≡ script_word fault))
 one_script text = record {
-  one = (one_judgement text).one_schedule;
-  one_fault = λ line other word word' first second. (
-    (one_judgement text).one_line line other first.0 second.0 first.1 second.1,
-    first.2 ∙ ap script_word ((one_judgement text).one_fault line other first.0 second.0 first.1 second.1) ∙ sym second.2,
-  );
-  apart = λ schedule line word good bad. (one_judgement text).apart schedule line bad.0 good bad.1;
+  one = λ a b first second. scripts.one_schedule text a b first second;
+  one_fault = λ line other word word' first second.
+      let same = scripts.one_fault text line other first.0 second.0 first.1 second.1 in
+      (same.0, first.2 ∙ ap script_word same.1 ∙ sym second.2);
+  apart = λ schedule line word good bad. scripts.never_both text schedule line bad.0 good bad.1;
 }
 
 -- A script of several tasks, and an image that is placed. ----------------------------------------------------
 
-one_scripts : (count : ℕ) (text : List ℕ) → IsOnePart (List Schedule) (Schedules count (lines_of text)) (λ line word. (fault : ScriptFault) × IsFirst count (lines_of text) line fault × (word ≡ script_word fault))
+one_scripts : (count : ℕ) (text : List ℕ)
+    → IsOnePart (List Schedule) (Schedules count text) (λ line word. (fault : ScriptFault) × (scripts_fault count text ≡ Some (line, fault)) × (word ≡ script_word fault))
 one_scripts count text = record {
   one = λ a b first second. schedules_one count text a b first second;
   one_fault = λ line other word word' first second.
       let same = first_one count text line other first.0 second.0 first.1 second.1 in
       (same.0, first.2 ∙ ap script_word same.1 ∙ sym second.2);
-  apart = λ schedules line word good bad. schedules_apart count text schedules line bad.0 good bad.1.is;
+  apart = λ schedules line word good bad. schedules_apart count text schedules line bad.0 good bad.1;
 }
 
 one_placed : (count : ℕ) (image : List ℕ) (asked : Job) → IsOne (IsPlaced count image asked)
@@ -114,7 +113,8 @@ one_flash text = record {
 
 -- A source. -----------------------------------------------------------------------------------------------
 
-one_assembled : (text : List ℕ) → IsOnePart (List ℕ) (λ words. (fault_of text ≡ None) × AsmText text words) (λ line word. (fault : AsmFault) × (fault_of text ≡ Some (line, fault)) × (word ≡ asm_word fault))
+one_assembled : (text : List ℕ)
+    → IsOnePart (List ℕ) (λ words. (fault_of text ≡ None) × AsmText text words) (λ line word. (fault : AsmFault) × (fault_of text ≡ Some (line, fault)) × (word ≡ asm_word fault))
 one_assembled text = record {
   one = λ a b first second. same_words text a b first.1 second.1;
   one_fault = λ line other word word' first second.

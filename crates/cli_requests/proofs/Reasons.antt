@@ -50,7 +50,8 @@ pub data Reason (job whole : Job) : Type 0 where
   Same : job ≡ whole → Reason job whole
 
 -- of any rule that asks for one job
-by_text : (Rule : List ℕ → Job → Type 0) (before now : Input) (text : List ℕ) (job whole : Job) → ((text : List ℕ) → IsOne (Rule text)) → Tells before now text → AsksByText Rule before now job → Limited Rule text whole → Reason job whole
+by_text : (Rule : List ℕ → Job → Type 0) (before now : Input) (text : List ℕ) (job whole : Job) → ((text : List ℕ) → IsOne (Rule text)) → Tells before now text → AsksByText Rule before now job
+    → Limited Rule text whole → Reason job whole
 by_text Rule before now text job whole one tells (inl (IsUnread.ReadFault is rose taken)) limited = absurd (tells.read rose)
 by_text Rule before now text job whole one tells (inl (IsUnread.NoMemory is taken)) limited = Wanting is
 by_text Rule before now text job whole one tells (inl (IsUnread.TooLong is taken)) (inl long) = Same (is ∙ sym long.1)

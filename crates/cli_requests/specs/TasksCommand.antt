@@ -1,11 +1,10 @@
 -- The command `tasks`: what its text asks for.
-use Rattle.std.specs.Prelude.{◌≡◌, ℕ, List}
+use Rattle.std.specs.Prelude.{◌≡◌, ℕ, List, Some}
 use Rattle.input_script.specs.Script.{Schedule}
 use Rattle.input_script.specs.declared.fault.ScriptFault.{ScriptFault}
-use Rattle.line_reader.specs.Lines.{lines_of}
 use Rattle.printed_text.specs.FaultyLines.{bad_image_text, script_part, script_word}
 use Rattle.task_input.specs.Images.{IsFirstMisplaced, IsMisplaced}
-use Rattle.task_input.specs.Scripts.{IsFirst, Schedules}
+use Rattle.task_input.specs.Scripts.{Schedules, scripts_fault}
 use Rattle.cli_words.specs.declared.command.TaskOptions.{TaskOptions}
 use Rattle.cli_words.specs.declared.job.Job.{Job}
 use Rattle.cli_words.specs.declared.job.Job.TheVariants.{Print, Tasks}
@@ -16,8 +15,8 @@ use Rattle.cli_requests.specs.RunCommand.{HexThen}
 -- a script of so many tasks, and what its schedules ask for. Its lines are counted from its own first
 abbrev pub TaskScriptsThen : (count : ℕ) → List ℕ → (List Schedule → Job → Type 0) → Job → Type 0
 TaskScriptsThen count text Then =
-    IsJudged (List Schedule) script_part (Schedules count (lines_of text))
-    (λ line word. (fault : ScriptFault) × IsFirst count (lines_of text) line fault × (word ≡ script_word fault))
+    IsJudged (List Schedule) script_part (Schedules count text)
+    (λ line word. (fault : ScriptFault) × (scripts_fault count text ≡ Some (line, fault)) × (word ≡ script_word fault))
     Then
 
 -- a word stands in the image where no task has one

@@ -12,7 +12,8 @@ record GoesOn (rows : List Row) (choice : Choice) (behind : List (List ℕ)) (be
   free : slice_get before (place_of choice.parameter) ≡ Some None
   later : Choose rows behind (slice_set before (place_of choice.parameter) (Some choice.value)) after
 
-goes_on : (rows : List Row) (choice : Choice) (words behind : List (List ℕ)) (before after : List (Option ℕ)) → BeginsWith rows choice words behind → Choose rows words before after → GoesOn rows choice behind before after
+goes_on : (rows : List Row) (choice : Choice) (words behind : List (List ℕ)) (before after : List (Option ℕ)) → BeginsWith rows choice words behind → Choose rows words before after
+    → GoesOn rows choice behind before after
 goes_on rows choice words behind before after begins ([], said) =
     absurd (none_read rows [] refl choice behind (subst (λ ws. BeginsWith rows choice ws behind) said.0 begins))
 goes_on rows choice words behind before after begins (first ∷ later, said) =
@@ -32,7 +33,8 @@ one_chosen rows (choice ∷ choices) words before a b first second =
     one_chosen rows choices first.0 _ a b first.3 (goes_on rows choice words first.0 before b first.1 second).later
 
 -- behind one more choice
-pub read_more : (rows : List Row) (words rest behind : List (List ℕ)) (chosen : List (Option ℕ)) (choice : Choice) → HasRead rows words rest chosen → BeginsWith rows choice rest behind → slice_get chosen (place_of choice.parameter) ≡ Some None
+pub read_more : (rows : List Row) (words rest behind : List (List ℕ)) (chosen : List (Option ℕ)) (choice : Choice) → HasRead rows words rest chosen → BeginsWith rows choice rest behind
+    → slice_get chosen (place_of choice.parameter) ≡ Some None
     → HasRead rows words behind (slice_set chosen (place_of choice.parameter) (Some choice.value))
 read_more rows words rest behind chosen choice read begins free = record {
   on = λ after said. (goes_on rows choice rest behind chosen after begins (read.on after said)).later;
@@ -40,12 +42,14 @@ read_more rows words rest behind chosen choice read begins free = record {
 }
 
 -- where the next words are no choice
-pub says_none : (rows : List Row) (words rest : List (List ℕ)) (chosen : List (Option ℕ)) → HasRead rows words rest chosen → rest ≢ [] → ((choice : Choice) (behind : List (List ℕ)) → ¬ BeginsWith rows choice rest behind) → (after : List (Option ℕ)) → ¬ Choose rows words nothing after
+pub says_none : (rows : List Row) (words rest : List (List ℕ)) (chosen : List (Option ℕ)) → HasRead rows words rest chosen → rest ≢ []
+    → ((choice : Choice) (behind : List (List ℕ)) → ¬ BeginsWith rows choice rest behind) → (after : List (Option ℕ)) → ¬ Choose rows words nothing after
 says_none rows words rest chosen read some none after said = first_none (read.on after said) where
   first_none : Choose rows rest chosen after → ⊥
   first_none ([], said) = some said.0
   first_none (choice ∷ choices, said) = none choice said.0 said.1
 
 -- where the next words choose a parameter again
-pub says_twice : (rows : List Row) (words rest behind : List (List ℕ)) (chosen : List (Option ℕ)) (choice : Choice) → HasRead rows words rest chosen → BeginsWith rows choice rest behind → slice_get chosen (place_of choice.parameter) ≢ Some None → (after : List (Option ℕ)) → ¬ Choose rows words nothing after
+pub says_twice : (rows : List Row) (words rest behind : List (List ℕ)) (chosen : List (Option ℕ)) (choice : Choice) → HasRead rows words rest chosen → BeginsWith rows choice rest behind
+    → slice_get chosen (place_of choice.parameter) ≢ Some None → (after : List (Option ℕ)) → ¬ Choose rows words nothing after
 says_twice rows words rest behind chosen choice read begins taken after said = taken (goes_on rows choice rest behind chosen after begins (read.on after said)).free

@@ -1,13 +1,13 @@
 -- The first words of a list choose a number in one way only.
-use Rattle.std.proofs.Common.{◌≡◌, ℕ, ◌≤◌, Bool, true, false, List, [], ◌∷◌, ◌++◌, append-nil, arith, sym, ap, ap₂, refl, ◌∙◌, inl, inr, subst, eqb}
+use Rattle.std.proofs.Common.{◌≡◌, ℕ, ◌<◌, Bool, true, false, List, [], ◌∷◌, ◌++◌, append-nil, arith, sym, ap, ap₂, refl, ◌∙◌, inl, inr, subst, eqb}
 use borrow.Author.Tests.{ne_eqb, eqb-true}
 use Rattle.std.specs.Prelude.{Option, Some, None, IfSome, IsSome, MatchOption, option_map, if◌then◌else◌}
 use Rattle.std.specs.Option.{option_map_or, option_or}
 use Rattle.std.specs.Char.{digit_value}
-use Rattle.std.specs.Str.Parse.{digits_value}
 use Rattle.std.specs.Str.Pattern.{FindsTextPrefix, StripsPrefix}
 use denote.Ref.{Bor}
-use Rattle.input_script.specs.Grammar.{IsNumber}
+use Rattle.input_script.specs.Grammar.{number_of}
+use Rattle.input_script.proofs.Digits.{number_digits}
 use Rattle.line_reader.specs.Stripping.{stripped}
 use Rattle.line_reader.proofs.StripLaws.{front_stripped, stripped_front}
 use Rattle.cli_words.specs.declared.table.Row.{Row}
@@ -24,15 +24,17 @@ parts p q ds es r s same =
     (ap (λ found. found.0) inner, ap (λ found. found.1) inner, ap (λ found. found.2) inner)
 
 -- digits begin with no name
-unnamed : (digits : List ℕ) (value : ℕ) → IsNumber digits value → first_named parameters digits ≡ None
-unnamed [] value number = absurd (let some : 1 ≤ 0 = number.some in omega arith)
+unnamed : (digits : List ℕ) (value : ℕ) → number_of digits ≡ Some value → first_named parameters digits ≡ None
+unnamed [] value number = absurd (let some : 0 < 0 = (number_digits value [] number).0 in omega arith)
 unnamed (c ∷ digits) value number =
-    let apart : eqb 45 c ≡ false = ne_eqb 45 c (λ same. omega (arith, ap digit_value (sym same), number.digits.0)) in
+    let apart : eqb 45 c ≡ false = ne_eqb 45 c (λ same. omega (arith, ap digit_value (sym same), (number_digits value (c ∷ digits) number).1.0)) in
     rw apart refl
 
 -- words that write digits of a parameter are read so
-pub is_read : (parameter : Parameter) (digits : List ℕ) (value : ℕ) (words rest : List (List ℕ)) → IsNumber digits value → IsWritten (name_of parameter) digits words rest → number_in words ≡ Some (parameter, digits, rest)
-is_read Seed digits value words rest number is = ap number_in is ∙ ap (λ named. option_map_or (λ (n : Parameter × List ℕ). value_at n.0 n.1 rest) named (Some (Seed, digits, rest))) (unnamed digits value number)
+pub is_read : (parameter : Parameter) (digits : List ℕ) (value : ℕ) (words rest : List (List ℕ)) → number_of digits ≡ Some value → IsWritten (name_of parameter) digits words rest
+    → number_in words ≡ Some (parameter, digits, rest)
+is_read Seed digits value words rest number is = ap number_in is
+    ∙ ap (λ named. option_map_or (λ (n : Parameter × List ℕ). value_at n.0 n.1 rest) named (Some (Seed, digits, rest))) (unnamed digits value number)
 is_read Count digits value words rest number (inl is) = ap number_in is
 is_read Count digits value words rest number (inr is) = ap number_in is
 is_read _ digits value words rest number (inl is) = ap number_in is
@@ -45,7 +47,8 @@ stripped_is front text = is (stripped front text) refl where
   is None same = tt
   is (Some rest) same = stripped_front front text rest same
 
-pub stripped_by : (front text : List ℕ) (found : Option (Bor (List ℕ))) → MatchOption found (FindsTextPrefix front text None) (λ x. StripsPrefix (FindsTextPrefix front) text x.now) → option_map (λ x. x.now) found ≡ stripped front text
+pub stripped_by : (front text : List ℕ) (found : Option (Bor (List ℕ))) → MatchOption found (FindsTextPrefix front text None) (λ x. StripsPrefix (FindsTextPrefix front) text x.now)
+    → option_map (λ x. x.now) found ≡ stripped front text
 stripped_by front text None lacks = none (stripped front text) (stripped_is front text) where
   none : (found : Option (List ℕ)) → IfSome found (λ behind. text ≡ front ++ behind) → None ≡ found
   none None is = refl
@@ -73,7 +76,8 @@ named_is : (among : List Parameter) (word : List ℕ) → IsNamed word (first_na
 named_is [] word = tt
 named_is (parameter ∷ others) word = either_named word _ _ (behind_named parameter word (name_of parameter) refl) (named_is others word)
 
-value_written : (found parameter : Parameter) (name word behind digits : List ℕ) (later rest : List (List ℕ)) → name_of found ≡ Some name → word ≡ name ++ behind → value_at found behind later ≡ Some (parameter, digits, rest) → IsWritten (name_of parameter) digits (word ∷ later) rest
+value_written : (found parameter : Parameter) (name word behind digits : List ℕ) (later rest : List (List ℕ)) → name_of found ≡ Some name → word ≡ name ++ behind
+    → value_at found behind later ≡ Some (parameter, digits, rest) → IsWritten (name_of parameter) digits (word ∷ later) rest
 value_written found parameter name word [] digits [] rest has is read = absurd (cc)
 value_written found parameter name word [] digits (next ∷ later) rest has is read =
     let same = parts found parameter next digits later rest read in
@@ -81,17 +85,21 @@ value_written found parameter name word [] digits (next ∷ later) rest has is r
     subst (λ n. IsWritten n digits (word ∷ next ∷ later) rest) (sym has ∙ ap name_of same.0)
     (inl (ap₂ (λ w ws. w ∷ ws) front (ap₂ (λ w ws. w ∷ ws) same.1 same.2)))
 value_written found parameter name word (c ∷ behind) digits later rest has is read = joined (eqb c 61) refl read where
-  joined : (equals : Bool) → eqb c 61 ≡ equals → ◌≡◌ {A = Option Found} (if◌then◌else◌ {A = Option Found} equals (Some (found, behind, later)) None) (Some (parameter, digits, rest)) → IsWritten (name_of parameter) digits (word ∷ later) rest
+  joined : (equals : Bool) → eqb c 61 ≡ equals → ◌≡◌ {A = Option Found} (if◌then◌else◌ {A = Option Found} equals (Some (found, behind, later)) None) (Some (parameter, digits, rest))
+      → IsWritten (name_of parameter) digits (word ∷ later) rest
   joined true equals read =
       let same = parts found parameter behind digits later rest read in
       subst (λ n. IsWritten n digits (word ∷ later) rest) (sym has ∙ ap name_of same.0)
       (inr (ap₂ (λ w ws. w ∷ ws) (is ∙ ap₂ (λ x xs. name ++ (x ∷ xs)) (eqb-true c 61 equals) same.1) same.2))
   joined false equals read = absurd (cc)
 
-pub is_written : (words : List (List ℕ)) (parameter : Parameter) (digits : List ℕ) (rest : List (List ℕ)) → number_in words ≡ Some (parameter, digits, rest) → IsWritten (name_of parameter) digits words rest
+pub is_written : (words : List (List ℕ)) (parameter : Parameter) (digits : List ℕ) (rest : List (List ℕ)) → number_in words ≡ Some (parameter, digits, rest)
+    → IsWritten (name_of parameter) digits words rest
 is_written [] parameter digits rest read = absurd (cc)
 is_written (word ∷ later) parameter digits rest read = behind_name (first_named parameters word) (named_is parameters word) read where
-  behind_name : (found : Option (Parameter × List ℕ)) → IsNamed word found → ◌≡◌ {A = Option Found} (option_map_or (λ (n : Parameter × List ℕ). value_at n.0 n.1 later) found (Some (Seed, word, later))) (Some (parameter, digits, rest)) → IsWritten (name_of parameter) digits (word ∷ later) rest
+  behind_name : (found : Option (Parameter × List ℕ)) → IsNamed word found
+      → ◌≡◌ {A = Option Found} (option_map_or (λ (n : Parameter × List ℕ). value_at n.0 n.1 later) found (Some (Seed, word, later))) (Some (parameter, digits, rest))
+      → IsWritten (name_of parameter) digits (word ∷ later) rest
   behind_name None is read =
       let same = parts Seed parameter word digits later rest read in
       subst (λ p. IsWritten (name_of p) digits (word ∷ later) rest) same.0 (ap₂ (λ w ws. w ∷ ws) same.1 same.2)
@@ -100,8 +108,10 @@ is_written (word ∷ later) parameter digits rest read = behind_name (first_name
 -- words begin with one choice
 pub one_choice : (rows : List Row) (words : List (List ℕ)) (a b : Choice) (rest rest' : List (List ℕ)) → BeginsWith rows a words rest → BeginsWith rows b words rest' → (a ≡ b) × (rest ≡ rest')
 one_choice rows words a b rest rest' first second =
-    let same = parts _ _ _ _ _ _ (sym (is_read a.parameter first.digits a.value words rest first.number first.written) ∙ is_read b.parameter second.digits b.value words rest' second.number second.written) in
-    let value : a.value ≡ b.value = first.number.value ∙ ap (digits_value 10) same.1 ∙ sym second.number.value in
+    let same = parts _ _ _ _ _ _ (sym (is_read a.parameter first.digits a.value words rest first.number first.written)
+    ∙ is_read b.parameter second.digits b.value words rest' second.number second.written) in
+    let both : Some a.value ≡ Some b.value = sym first.number ∙ ap number_of same.1 ∙ second.number in
+    let value : a.value ≡ b.value = cc in
     (ap₂ (λ p v. record { parameter = p; value = v }) same.0 value, same.2)
 
 -- words that are read as no number, or as one that can't be chosen
@@ -110,8 +120,8 @@ none_read rows words none choice rest begins =
     let read = is_read choice.parameter begins.digits choice.value words rest begins.number begins.written in absurd (cc)
 
 pub not_chosen : (rows : List Row) (words rest : List (List ℕ)) (parameter : Parameter) (digits : List ℕ) → number_in words ≡ Some (parameter, digits, rest)
-    → ((value : ℕ) → IsNumber digits value → ¬ IsSome (row_in rows parameter))
+    → ((value : ℕ) → number_of digits ≡ Some value → ¬ IsSome (row_in rows parameter))
     → (choice : Choice) (rest : List (List ℕ)) → ¬ BeginsWith rows choice words rest
 not_chosen rows words rest parameter digits read never choice rest' begins =
     let same = parts _ _ _ _ _ _ (sym (is_read choice.parameter begins.digits choice.value words rest' begins.number begins.written) ∙ read) in
-    never choice.value (subst (λ ds. IsNumber ds choice.value) same.1 begins.number) (subst (λ p. IsSome (row_in rows p)) same.0 begins.has)
+    never choice.value (sym (ap number_of same.1) ∙ begins.number) (subst (λ p. IsSome (row_in rows p)) same.0 begins.has)

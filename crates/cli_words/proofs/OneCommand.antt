@@ -89,14 +89,17 @@ one_command (word ∷ rest) a b first second =
     sym (made_is a) ∙ ap₂ made_by same values ∙ made_is b
 
 -- words that choose nothing are no command
-pub no_choice : (words rest : List (List ℕ)) (word : List ℕ) (kind : Command) → words ≡ word ∷ rest → word ≡ (entry_of kind).0 → ((after : List (Option ℕ)) → ¬ Choose (entry_of kind).1 rest nothing after) → IsNoCommand words
+pub no_choice : (words rest : List (List ℕ)) (word : List ℕ) (kind : Command) → words ≡ word ∷ rest → word ≡ (entry_of kind).0
+    → ((after : List (Option ℕ)) → ¬ Choose (entry_of kind).1 rest nothing after) → IsNoCommand words
 no_choice words rest word kind cut is none command asked =
     let own : IsCommand (word ∷ rest) command = subst (λ w. IsCommand w command) cut asked in
     none own.1.0 (subst (λ r. Choose r rest nothing own.1.0) (same_rows command kind (sym own.0 ∙ is)) own.1.1)
 
 -- what was made of the choices, or not
-pub command_told : (words rest : List (List ℕ)) (word : List ℕ) (kind : Command) (chosen : List (Option ℕ)) (found : Option Command) → words ≡ word ∷ rest → word ≡ (entry_of kind).0 → Choose (entry_of kind).1 rest nothing chosen
-    → MatchOption found ((values : List ℕ) → ¬ AreValues (entry_of kind).1 chosen values) (λ command. ((entry_of command).0 ≡ (entry_of kind).0) × AreValues (entry_of command).1 chosen (entry_of command).2)
+pub command_told : (words rest : List (List ℕ)) (word : List ℕ) (kind : Command) (chosen : List (Option ℕ)) (found : Option Command) → words ≡ word ∷ rest → word ≡ (entry_of kind).0
+    → Choose (entry_of kind).1 rest nothing chosen
+    → MatchOption found ((values : List ℕ) → ¬ AreValues (entry_of kind).1 chosen values)
+    (λ command. ((entry_of command).0 ≡ (entry_of kind).0) × AreValues (entry_of command).1 chosen (entry_of command).2)
     → MatchOption found (IsNoCommand words) (IsCommand words)
 command_told words rest word kind chosen None cut is said none = λ command asked.
     let own : IsCommand (word ∷ rest) command = subst (λ w. IsCommand w command) cut asked in

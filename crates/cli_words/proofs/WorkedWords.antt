@@ -22,15 +22,15 @@ said = (
   record { parameter = Steps; value = 100 } ∷ record { parameter = Quantum; value = 7 } ∷ record { parameter = Swap; value = 0 } ∷ [],
   (
     codes "--quantum=7" ∷ codes "--swap" ∷ codes "0" ∷ [],
-    record { digits = codes "100"; written = inl refl; number = record { digits = (omega arith, (omega arith, (omega arith, tt))); some = omega arith; most = omega arith; value = refl }; has = refl },
+    record { digits = codes "100"; written = inl refl; number = refl; has = refl },
     refl,
     (
       codes "--swap" ∷ codes "0" ∷ [],
-      record { digits = codes "7"; written = inr refl; number = record { digits = (omega arith, tt); some = omega arith; most = omega arith; value = refl }; has = refl },
+      record { digits = codes "7"; written = inr refl; number = refl; has = refl },
       refl,
       (
         [],
-        record { digits = codes "0"; written = inl refl; number = record { digits = (omega arith, tt); some = omega arith; most = omega arith; value = refl }; has = refl },
+        record { digits = codes "0"; written = inl refl; number = refl; has = refl },
         refl,
         (refl, refl),
       ),

@@ -3,7 +3,7 @@
 -- behind `=` in the same one.
 use Rattle.std.specs.Prelude.{◌≡◌, ℕ, ◌≤◌, ◌⊎◌, ◌==◌, List, [], ◌∷◌, ◌++◌, codes, slice_get, slice_set, slice_index_or, map, find, Option, Some, None, IsSome}
 use Rattle.std.specs.Option.{option_or}
-use Rattle.input_script.specs.Grammar.{IsNumber}
+use Rattle.input_script.specs.Grammar.{number_of}
 use Rattle.cli_words.specs.declared.command.RunOptions.{RunOptions}
 use Rattle.cli_words.specs.declared.table.Parameter.{Parameter}
 use Rattle.cli_words.specs.declared.table.Parameter.TheVariants.{Seed, Count, Steps, Quantum, Swap}
@@ -68,7 +68,7 @@ IsWritten (Some name) digits words rest = (words ≡ name ∷ digits ∷ rest) �
 pub record BeginsWith (rows : List Row) (choice : Choice) (words rest : List (List ℕ)) : Type 0 where
   pub digits : List ℕ
   pub written : IsWritten (name_of choice.parameter) digits words rest
-  pub number : IsNumber digits choice.value
+  pub number : number_of digits ≡ Some choice.value
   pub has : IsSome (row_in rows choice.parameter)
 
 -- words that make these choices, one after another, each of a parameter that had no value

@@ -1,6 +1,6 @@
 //! The numbers that the words behind a command give.
 ghost use Rattle.std.specs.Prelude.{◌≡◌, ◌≢◌, ℕ, ◌<◌, ◌≤◌, List, length, map, string_bytes, MatchOption, IfSome, IsSomeAnd, Option, Some, None, option_map, slice_get, slice_set};
-ghost use Rattle.input_script.specs.Grammar.{IsNumber};
+ghost use Rattle.input_script.specs.Grammar.{number_of};
 ghost use Rattle.cli_words.specs.declared.options.Choice.{Choice};
 ghost use Rattle.cli_words.specs.Options.{BeginsWith, Choose, IsValue, name_of, nothing, parameters, place_of, row_in};
 ghost use Rattle.cli_words.specs.Commands.{entry_of};
@@ -82,7 +82,7 @@ fn value_behind<'a>(
 
 /// The number that 1 to 10 decimal digits write, and nothing else does.
 fn number(text: &str) -> Option<u64>
-    ensures cases { MatchOption result ((n : ℕ) → ¬ IsNumber text.now n) (IsNumber text.now) }
+    ensures value { result ≡ number_of text.now }
 {
     if text.len() > 10 || text.starts_with('+') {
         return None;

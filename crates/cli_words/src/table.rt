@@ -11,14 +11,14 @@ use crate::command::{Command, DEFAULT_OPTIONS, TaskOptions};
 pub(crate) enum Parameter {
     /// Which test program; it has no name.
     Seed,
-    /// How many tasks there are.
-    Count,
     /// How many steps may be done.
     Steps,
     /// How many crossings make a checkpoint.
     Quantum,
     /// How many pages of the heap can be swapped out.
     Swap,
+    /// How many tasks there are.
+    Count,
 }
 
 /// How many parameters there are.

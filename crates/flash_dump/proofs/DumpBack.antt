@@ -78,7 +78,13 @@ word_read word fits =
 
 word_digits_all : (word : ℕ) → word < 65536 → AllDigits 16 (digits_of_word word)
 unfolding encode_with
-word_digits_all word fits = (omega (arith, hex_digit (word / 256 / 16) (omega arith)), (omega (arith, hex_digit (word / 256 % 16) (omega arith)), (omega (arith, hex_digit (word % 256 / 16) (omega arith)), (omega (arith, hex_digit (word % 256 % 16) (omega arith)), tt))))
+word_digits_all word fits = (
+  omega (arith, hex_digit (word / 256 / 16) (omega arith)),
+  (
+    omega (arith, hex_digit (word / 256 % 16) (omega arith)),
+    (omega (arith, hex_digit (word % 256 / 16) (omega arith)), (omega (arith, hex_digit (word % 256 % 16) (omega arith)), tt)),
+  ),
+)
 
 words_digits_all : (words : List ℕ) → AreWords words → AllDigits 16 (encode_upper (bytes_of_words words))
 unfolding encode_with
@@ -111,7 +117,8 @@ number_read page low =
     rw (a, b, c) (omega arith)
 
 number_digits_all : (page : ℕ) → page < 1000 → AllDigits 10 (three_digits page)
-number_digits_all page low = (omega (arith, decimal_digit (page / 100) (omega arith)), (omega (arith, decimal_digit (page / 10 % 10) (omega arith)), (omega (arith, decimal_digit (page % 10) (omega arith)), tt)))
+number_digits_all page low =
+    (omega (arith, decimal_digit (page / 100) (omega arith)), (omega (arith, decimal_digit (page / 10 % 10) (omega arith)), (omega (arith, decimal_digit (page % 10) (omega arith)), tt)))
 
 word_small : (words : List ℕ) (k : ℕ) → AreWords words → get_or words k 0 < 65536
 word_small words k fit = fit k
@@ -135,7 +142,13 @@ bytes_high : (words : List ℕ) → AreWords words → IsHigh (encode_upper (byt
 unfolding encode_with
 bytes_high [] fit = tt
 bytes_high (word ∷ words) fit =
-    let fits : word < 65536 = fit 0 in (hex_high (word / 256 / 16) (omega arith), (hex_high (word / 256 % 16) (omega arith), (hex_high (word % 256 / 16) (omega arith), (hex_high (word % 256 % 16) (omega arith), bytes_high words (λ a. fit (suc a))))))
+    let fits : word < 65536 = fit 0 in (
+      hex_high (word / 256 / 16) (omega arith),
+      (
+        hex_high (word / 256 % 16) (omega arith),
+        (hex_high (word % 256 / 16) (omega arith), (hex_high (word % 256 % 16) (omega arith), bytes_high words (λ a. fit (suc a)))),
+      ),
+    )
 
 line_high : (page : ℕ) (words : List ℕ) → AreWords words → IsHigh (page_line page words)
 line_high page words fit = (omega arith, (omega arith, (omega arith, (omega arith, (omega arith, (omega arith, (omega arith, (omega arith, (omega arith, bytes_high words fit)))))))))
@@ -225,7 +238,8 @@ page_fits words page fit long k = elim (cases_lt k page_words) [
   past (word ∷ own) (suc k) beyond = past own k (omega arith)
 
 -- one page more
-page_back : (words flash : List ℕ) (page least : ℕ) (later : List (List ℕ)) (test : Bool) → length words ≡ word_count → AreWords words → page < page_count → least ≤ page → IsSetTo words flash page → is_erased (page_of words page) ≡ test
+page_back : (words flash : List ℕ) (page least : ℕ) (later : List (List ℕ)) (test : Bool) → length words ≡ word_count → AreWords words → page < page_count → least ≤ page → IsSetTo words flash page
+    → is_erased (page_of words page) ≡ test
     → ((flash' : List ℕ) (least' : ℕ) → least' ≤ page + 1 → IsSetTo words flash' (page + 1) → IsBack words flash' least' later)
     → IsBack words flash least (cond test [] (page_line page (page_of words page) ∷ []) ++ later)
 page_back words flash page least later true whole fit low least_low set test later_back =
@@ -251,7 +265,8 @@ page_back words flash page least later false whole fit low least_low set test la
       plain = All-cons IsPlain line later (line_plain line (line_high page own own_fit) (omega (arith, page_size line has))) back.plain;
     }
 
-pages_back : (words flash : List ℕ) (page count least : ℕ) → page + count ≡ page_count → length words ≡ word_count → AreWords words → least ≤ page → IsSetTo words flash page → IsBack words flash least (lines_of_pages words page count)
+pages_back : (words flash : List ℕ) (page count least : ℕ) → page + count ≡ page_count → length words ≡ word_count → AreWords words → least ≤ page → IsSetTo words flash page
+    → IsBack words flash least (lines_of_pages words page count)
 pages_back words flash page zero least all whole fit low set = record {
   sound = λ number. refl;
   words_are = same_number_lists flash words (set.whole ∙ sym whole) (λ a below. set.done a (omega (arith, set.whole)));

@@ -44,7 +44,8 @@ page_sound least line has from below =
     rw (some, has, ordered, inside) refl
 
 -- a line with a page
-pub taken_page : (line : List ℕ) (least page : ℕ) (words : List ℕ) (old new : Memory) → has_page line ≡ true → page ≡ page_in line → words ≡ words_in line → least ≤ page → page < 512 → IsOpen old least
+pub taken_page : (line : List ℕ) (least page : ℕ) (words : List ℕ) (old new : Memory) → has_page line ≡ true → page ≡ page_in line → words ≡ words_in line → least ≤ page → page < 512
+    → IsOpen old least
     → new ≡ programmed_page old page words → IsTaken line least (page + 1) old new
 taken_page line least page words old new has page_is words_are from below open' after =
     let some = page_some line has in
@@ -67,7 +68,8 @@ taken_page line least page words old new has page_is words_are from below open' 
     }
 
 -- one line more of the text
-pub read_more : (text rest line behind : List ℕ) (least after number : ℕ) (old new : Memory) → IsReadTo text rest least number old → lines_of rest ≡ line ∷ lines_of behind → IsTaken line least after old new → IsReadTo text behind after (number + 1) new
+pub read_more : (text rest line behind : List ℕ) (least after number : ℕ) (old new : Memory) → IsReadTo text rest least number old → lines_of rest ≡ line ∷ lines_of behind
+    → IsTaken line least after old new → IsReadTo text behind after (number + 1) new
 read_more text rest line behind least after number old new read lines taken =
     record {
       is_open = taken.is_open;
@@ -92,5 +94,6 @@ erased_open flash is =
       blank_on = λ page above low.
           let long : length (page_of flash.words page) ≡ page_words = length-page_of flash.words page (omega (arith, whole)) in
           same_number_lists (page_of flash.words page) (many page_words 0xFFFF) (long ∙ sym (length-many page_words 0xFFFF)) (λ k below.
-          page_word flash.words page k (omega (arith, long)) ∙ ap (λ ws. word_at ws (page_words * page + k)) words ∙ get_or-many word_count 0xFFFF (page_words * page + k) (omega (arith, long)) ∙ sym (get_or-many page_words 0xFFFF k (omega (arith, long))));
+          page_word flash.words page k (omega (arith, long)) ∙ ap (λ ws. word_at ws (page_words * page + k)) words ∙ get_or-many word_count 0xFFFF (page_words * page + k) (omega (arith, long))
+          ∙ sym (get_or-many page_words 0xFFFF k (omega (arith, long))));
     }

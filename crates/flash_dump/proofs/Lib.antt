@@ -3,6 +3,8 @@ mod DumpLineLaws
 mod DumpLaws
 mod WrittenLaws
 mod DumpBack
+mod LineAgreement
+mod TextAgreement
 mod WorkedDumps
 pub mod Judgement
 pub mod ErasedLaws

@@ -2,4 +2,5 @@
 pub mod DumpLines
 pub mod Dumps
 pub mod DumpAnswers
+pub mod GrammarLaw
 pub mod WrittenDumps

@@ -1,26 +1,28 @@
 -- The text of an image has that image.
-use Rattle.std.proofs.Common.{◌≡◌, ℕ, zero, suc, ◌+◌, ◌*◌, ◌/◌, ◌%◌, ◌<◌, ◌≤◌, ◌==◌, ◌^◌, true, false, List, [], ◌∷◌, ◌++◌, length, get_or, take, drop, map, refl, sym, ap, ◌∙◌, subst, arith, Some, None}
-use Rattle.std.specs.Prelude.{All, flat_map, unwrap_or}
-use Rattle.std.specs.List.{concat, enumerate_from, last_or, range_with_len, slice_get}
+use Rattle.std.proofs.Common.{◌≡◌, ℕ, zero, suc, add-one, ◌+◌, ◌*◌, ◌/◌, ◌%◌, ◌<◌, ◌≤◌, ◌==◌, ◌^◌, true, false, List, [], ◌∷◌, ◌++◌, length, get_or, take, drop, length-drop, map, refl, sym, ap, ap₂, ◌∙◌, subst, arith, Some, None}
+use Rattle.std.specs.Prelude.{All, flat_map, is_some, nat_lt, unwrap_or}
+use Rattle.std.specs.List.{concat, enumerate_from, list_any, range_with_len}
 use Rattle.std.proofs.lemmas.Bool.Decides.{nat_tests}
 use Rattle.std.proofs.lemmas.Grind.{flat_map-append}
-use Rattle.std.proofs.lemmas.List.{append-nil, length-map, length-take, length_push, map-append, take_all, take_at}
+use Rattle.std.proofs.lemmas.List.{append-nil, length-map, length-take, length_push, take_all}
 use Rattle.std.proofs.lemmas.List.Elements.{All-drop, All-from_get_or, All-head, All-push, All-tail, All-take}
-use Rattle.std.proofs.lemmas.List.FromFn.{fill_by_all, get_or-map-range_with_len, length-map-range_with_len}
+use Rattle.std.proofs.lemmas.List.FromFn.{fill_by_all, get_or-map-range_with_len, length-enumerate_from, length-map-range_with_len, map-range_with_len_more}
 use Rattle.hex.specs.Hex.{IsBytes}
-use Rattle.line_reader.specs.Lines.{pieces_of}
+use Rattle.line_reader.specs.Lines.{lines_of, pieces_of}
 use Rattle.line_reader.specs.Written.{fed, IsPlain}
+use Rattle.line_reader.proofs.FaultLaws.{after_both}
 use Rattle.line_reader.proofs.TextLaws.{concat-fed, lines_of-fed, pieces_of-fed}
-use Rattle.hex_image.specs.Lines.{Meaning, bytes_at, end_of_file, meaning_of}
-use Rattle.hex_image.specs.Places.{base_after, base_set_by, byte_at, byte_given, cells_of, extent, places_of, word_of_cells, image_of_cells}
-use Rattle.hex_image.specs.HexText.{AreDifferent, HexText, IsBeforeEnd, meanings_of}
+use Rattle.hex_image.specs.Lines.{address_in, bytes_of, kind_in}
+use Rattle.hex_image.specs.Places.{Known, after_line, byte_at, byte_given, cells_at, extent, image_of_cells, nothing, word_of_cells}
+use Rattle.hex_image.specs.HexText.{HexText, end_line, fault_at, lines_read}
 use Rattle.hex_image.specs.Image.{IsImage, most_bytes}
 use Rattle.hex_image.specs.Written.{bytes_of_words, data_line, record_content, record_count, record_line, written}
-use Rattle.hex_image.proofs.ReadingLemmas.{cells_of-push}
-use Rattle.hex_image.proofs.GrammarLemmas.{AreSound, sound_row}
-use Rattle.hex_image.proofs.WrittenLemmas.{IsWritable, record_line-meaning, record_line-plain}
+use Rattle.hex_image.proofs.LineLemmas.{OfKind, data_fault, of_kind, quiet_fault}
+use Rattle.hex_image.proofs.PlaceLemmas.{extent-row, fault_by, fresh}
+use Rattle.hex_image.proofs.ReadingLemmas.{data_cells}
+use Rattle.hex_image.proofs.TextLemmas.{AreBefore, are_all, before_more, behind}
+use Rattle.hex_image.proofs.WrittenLemmas.{IsWritable, data_line-is, record_line-bytes, record_line-plain, record_line-sound}
 use Rattle.base_laws.proofs.ManyLaws.{length-two_each}
-use Rattle.base_laws.proofs.Ranges.{range_with_len-push}
 
 -- ---- bytes and words
 
@@ -51,10 +53,6 @@ byte_high (word ∷ words) (suc a) inside =
     rw next (byte_high words a (omega arith))
 
 -- ---- cells in a row
-
-extent-row : (start : ℕ) (byte : ℕ) (bytes : List ℕ) → extent (enumerate_from start (byte ∷ bytes)) ≡ start + length (byte ∷ bytes)
-extent-row start byte [] = omega arith
-extent-row start byte (next ∷ bytes) = omega (arith, extent-row (start + 1) next bytes)
 
 extent-all : (bytes : List ℕ) → extent (enumerate_from 0 bytes) ≡ length bytes
 extent-all [] = refl
@@ -107,14 +105,6 @@ take-plus (suc m) n (x ∷ xs) =
 
 -- ---- the lines of the text
 
--- what a data record says
-abbrev data_meaning : List ℕ → ℕ → Meaning
-data_meaning words number = bytes_at (16 * number) (record_content words number)
-
--- what the first data records say
-abbrev data_meanings : List ℕ → ℕ → List Meaning
-data_meanings words n = map (data_meaning words) (range_with_len 0 n)
-
 length-content : (words : List ℕ) (number : ℕ) → length (record_content words number) ≤ 16
 length-content words number =
     omega (arith, length-bytes_of_words (take 8 (drop (8 * number) words)), length-take 8 (drop (8 * number) words))
@@ -153,83 +143,95 @@ written-fed words =
     let lines = map (data_line words) (range_with_len 0 (record_count words)) in
     sym (flat_map-append fed lines (record_line 1 0 [] ∷ []) ∙ ap (λ z. flat_map fed lines ++ z) (append-nil (fed (record_line 1 0 []))))
 
--- what the data lines say
-meanings-data : (words : List ℕ) → IsImage words → (n : ℕ) → n ≤ record_count words → map meaning_of (map (data_line words) (range_with_len 0 n)) ≡ data_meanings words n
-meanings-data words image zero fits = refl
-meanings-data words image (suc n) fits =
-    let before = range_with_len 0 n in
-    let more : range_with_len 0 (suc n) ≡ before ++ n ∷ [] = range_with_len-push 0 n ∙ ap (λ z. before ++ z ∷ []) (omega arith) in
-    ap (λ z. map meaning_of (map (data_line words) z)) more
-    ∙ ap (map meaning_of) (map-append (data_line words) before (n ∷ []))
-    ∙ map-append meaning_of (map (data_line words) before) (data_line words n ∷ [])
-    ∙ ap (λ z. z ++ meaning_of (data_line words n) ∷ []) (meanings-data words image n (omega arith))
-    ∙ ap (λ z. data_meanings words n ++ z ∷ []) (record_line-meaning 0 (16 * n) (record_content words n) (writable words n image (omega arith)))
-    ∙ sym (ap (map (data_meaning words)) more ∙ map-append (data_meaning words) before (n ∷ []))
+-- the lines of the first data records
+abbrev data_lines : List ℕ → ℕ → List (List ℕ)
+data_lines words n = map (data_line words) (range_with_len 0 n)
 
-meanings_of-written : (words : List ℕ) → IsImage words → meanings_of (written words) ≡ data_meanings words (record_count words) ++ end_of_file ∷ []
-meanings_of-written words image =
-    let n = record_count words in
-    ap meanings_of (written-fed words)
-    ∙ ap (map meaning_of) (lines_of-fed (all_lines words) (plain_lines words image))
-    ∙ map-append meaning_of (map (data_line words) (range_with_len 0 n)) (record_line 1 0 [] ∷ [])
-    ∙ ap (λ z. z ++ meaning_of (record_line 1 0 []) ∷ []) (meanings-data words image n (omega arith))
-    ∙ ap (λ z. data_meanings words n ++ z ∷ []) (record_line-meaning 1 0 [] writable_end)
+-- what is known behind them
+abbrev data_known : List ℕ → ℕ → Known
+data_known words n = record { base = 0; cells = enumerate_from 0 (bytes_of_words (take (8 * n) words)) }
 
--- data records set no base
-no_base : (words : List ℕ) (a n : ℕ) → flat_map base_set_by (map (data_meaning words) (range_with_len a n)) ≡ []
-no_base words a zero = refl
-no_base words a (suc n) = no_base words (a + 1) n
+full : (words : List ℕ) (n : ℕ) → n < record_count words → length (bytes_of_words (take (8 * n) words)) ≡ 16 * n
+full words n below = omega (arith, length-take (8 * n) words, length-bytes_of_words (take (8 * n) words))
 
--- the data records give the bytes in a row
-cells_of-data : (words : List ℕ) (n : ℕ) → n ≤ record_count words → cells_of (data_meanings words n) ≡ enumerate_from 0 (bytes_of_words (take (8 * n) words))
-cells_of-data words zero fits = refl
-cells_of-data words (suc n) fits =
-    let before = range_with_len 0 n in
+-- the places of bytes in a row are below the next
+free_row : (bytes content : List ℕ) (start : ℕ) → length bytes ≤ start
+    → list_any (λ place. is_some (byte_given (enumerate_from 0 bytes) place)) (range_with_len start (length content)) ≡ false
+free_row bytes [] start above = refl
+free_row bytes (byte ∷ content) start above =
+    let all = take_all (length bytes) (enumerate_from 0 bytes) (omega (arith, length-enumerate_from 0 bytes)) in
+    let none : byte_given (enumerate_from 0 bytes) start ≡ None = ap (λ z. byte_given z start) (sym all) ∙ fresh (length bytes) 0 start bytes (omega (arith, above)) in
+    rw none (free_row bytes content (start + 1) (omega (arith, above)))
+
+row_few : (start : ℕ) (content : List ℕ) → start + length content ≤ most_bytes → nat_lt most_bytes (extent (enumerate_from start content)) ≡ false
+row_few start [] fits = refl
+row_few start (byte ∷ content) fits = let e = extent-row start byte content in grind (arith, nat_tests)
+
+-- a data record that stands in a row has no fault
+data_sound : (words : List ℕ) (n : ℕ) → IsImage words → n < record_count words → fault_at (data_known words n) (data_line words n) ≡ None
+data_sound words n image below =
+    let bytes = bytes_of_words (take (8 * n) words) in
+    let content = record_content words n in
+    let fits : nat_lt 65536 (16 * n + length content) ≡ false = let short = length-content words n in let few = image.few in grind (arith, nat_tests) in
+    let last : 0 + 16 * n + length content ≤ most_bytes =
+    omega (arith, image.few, length-bytes_of_words (take 8 (drop (8 * n) words)), length-take 8 (drop (8 * n) words), length-drop (8 * n) words) in
+    data_fault (data_known words n) (data_line words n) (16 * n) content (data_line-is (16 * n) content (writable words n image below))
+    ∙ fault_by (enumerate_from 0 bytes) 0 (16 * n) content false false false fits (free_row bytes content (0 + 16 * n) (omega (arith, full words n below))) (row_few (0 + 16 * n) content last)
+
+-- and gives its bytes behind those before
+data_after : (words : List ℕ) (n : ℕ) → IsImage words → n < record_count words → after_line (data_known words n) (data_line words n) ≡ data_known words (suc n)
+data_after words n image below =
     let front = take (8 * n) words in
     let chunk = take 8 (drop (8 * n) words) in
-    let more : data_meanings words (suc n) ≡ data_meanings words n ++ data_meaning words n ∷ [] =
-    ap (map (data_meaning words)) (range_with_len-push 0 n ∙ ap (λ z. before ++ z ∷ []) (omega arith)) ∙ map-append (data_meaning words) before (n ∷ []) in
-    let full : length front ≡ 8 * n = omega (arith, length-take (8 * n) words) in
-    let start : base_after (data_meanings words n) + 16 * n ≡ 0 + length (bytes_of_words front) = omega (arith, ap (λ z. unwrap_or (last_or None z) 0) (no_base words 0 n), full, length-bytes_of_words front) in
+    let content = record_content words n in
+    let is = data_line-is (16 * n) content (writable words n image below) in
+    let start : 0 + 16 * n ≡ 0 + length (bytes_of_words front) = omega (arith, full words n below) in
     let parts : bytes_of_words (take (8 * suc n) words) ≡ bytes_of_words front ++ bytes_of_words chunk =
     ap (λ z. bytes_of_words (take z words)) (omega arith) ∙ ap bytes_of_words (take-plus (8 * n) 8 words) ∙ flat_map-append (λ word. word % 256 ∷ word / 256 ∷ []) front chunk in
-    ap cells_of more
-    ∙ cells_of-push (data_meanings words n) (data_meaning words n)
-    ∙ ap (λ z. z ++ enumerate_from (base_after (data_meanings words n) + 16 * n) (bytes_of_words chunk)) (cells_of-data words n (omega arith))
-    ∙ ap (λ z. enumerate_from 0 (bytes_of_words front) ++ enumerate_from z (bytes_of_words chunk)) start
-    ∙ sym (ap (enumerate_from 0) parts ∙ enumerate_from-append 0 (bytes_of_words front) (bytes_of_words chunk))
+    let cells : enumerate_from 0 (bytes_of_words front) ++ cells_at 0 (data_line words n) ≡ enumerate_from 0 (bytes_of_words (take (8 * suc n) words)) =
+    ap (λ z. enumerate_from 0 (bytes_of_words front) ++ z) (data_cells (data_known words n) (data_line words n) (16 * n) content is ∙ ap (λ z. enumerate_from z (bytes_of_words chunk)) start)
+    ∙ sym (ap (enumerate_from 0) parts ∙ enumerate_from-append 0 (bytes_of_words front) (bytes_of_words chunk)) in
+    ap₂ (λ b c. record { base = b; cells = c }) ((of_kind (data_line words n) 0 is.kind).base 0) cells
 
-slice_get-end : {X : Type 0} (xs : List X) (x : X) → slice_get (xs ++ x ∷ []) (length xs) ≡ Some x
-slice_get-end [] x = refl
-slice_get-end (y ∷ ys) x = slice_get-end ys x
+-- the data records
+data_read : (words : List ℕ) → IsImage words → (n : ℕ) → n ≤ record_count words → AreBefore (data_lines words n) × (behind (data_lines words n) ≡ data_known words n)
+data_read words image zero fits = (record { sound = refl; unended = refl }, refl)
+data_read words image (suc n) fits =
+    let before = data_read words image n (omega arith) in
+    let line = data_line words n in
+    let more : data_lines words (suc n) ≡ data_lines words n ++ line ∷ [] = ap (data_lines words) (sym (add-one n)) ∙ map-range_with_len_more (data_line words) 0 n n (omega arith) in
+    let is = data_line-is (16 * n) (record_content words n) (writable words n image (omega arith)) in
+    let sound : fault_at (behind (data_lines words n)) line ≡ None = ap (λ k. fault_at k line) before.1 ∙ data_sound words n image (omega arith) in (
+      rw more (before_more (data_lines words n) line before.0 sound (of_kind line 0 is.kind).ends),
+      ap behind more ∙ after_both fault_at after_line nothing (data_lines words n) (line ∷ []) ∙ ap (λ k. after_line k line) before.1 ∙ data_after words n image (omega arith),
+    )
 
 -- the text of an image has that image, and nothing stands behind it
 pub image_written : (words : List ℕ) → IsImage words → HexText (written words) words (length (written words))
 image_written words image =
     let n = record_count words in
     let text = written words in
-    let metas = data_meanings words n in
-    let lines : meanings_of text ≡ metas ++ end_of_file ∷ [] = meanings_of-written words image in
-    let size : length metas ≡ n = length-map-range_with_len (data_meaning words) 0 n in
-    let ends : slice_get (meanings_of text) n ≡ Some end_of_file =
-    ap (λ z. slice_get z n) lines ∙ ap (slice_get (metas ++ end_of_file ∷ [])) (sym size) ∙ slice_get-end metas end_of_file in
-    let front : take n (meanings_of text) ≡ metas = ap (take n) lines ∙ take_at metas (end_of_file ∷ []) n size in
-    let cells : cells_of (take n (meanings_of text)) ≡ enumerate_from 0 (bytes_of_words words) =
-    ap cells_of front ∙ cells_of-data words n (omega arith) ∙ ap (λ z. enumerate_from 0 (bytes_of_words z)) (take_all (8 * n) words (omega arith)) in
-    let sound : AreSound (enumerate_from 0 (bytes_of_words words)) = sound_row 0 (bytes_of_words words) (omega (arith, image.few, length-bytes_of_words words)) in
-    let right : All IsBeforeEnd metas = All-from_get_or IsBeforeEnd metas end_of_file (λ i inside.
-    subst IsBeforeEnd (sym (get_or-map-range_with_len (data_meaning words) 0 n i i end_of_file (omega (arith, size)) (omega arith))) (omega (arith, image.few, length-content words i))) in
+    let end = record_line 1 0 [] in
+    let read = data_read words image n (omega arith) in
+    let kind : OfKind end 1 = of_kind end 1 (ap kind_in (record_line-bytes 1 0 [] writable_end)) in
+    let lines : lines_of text ≡ data_lines words n ++ end ∷ [] = ap lines_of (written-fed words) ∙ lines_of-fed (all_lines words) (plain_lines words image) in
+    let sound : fault_at (behind (data_lines words n)) end ≡ None = quiet_fault (behind (data_lines words n)) end (record_line-sound 1 0 [] writable_end) kind.gives in
+    let all = are_all text (data_lines words n) [] end lines read.0 sound kind.ends in
+    let none : cells_at 0 end ≡ [] = ap (enumerate_from (0 + address_in (bytes_of end))) kind.gives in
+    let cells : (behind (lines_read text)).cells ≡ enumerate_from 0 (bytes_of_words words) =
+    ap (λ z. (behind z).cells) all.lines
+    ∙ ap (λ (k : Known). k.cells) (after_both fault_at after_line nothing (data_lines words n) (end ∷ []))
+    ∙ ap (λ k. k.cells ++ cells_at k.base end) read.1
+    ∙ ap (λ z. enumerate_from 0 (bytes_of_words (take (8 * n) words)) ++ z) none
+    ∙ append-nil _
+    ∙ ap (λ z. enumerate_from 0 (bytes_of_words z)) (take_all (8 * n) words (omega arith)) in
     let pieces : pieces_of text ≡ map fed (all_lines words) = ap pieces_of (written-fed words) ∙ pieces_of-fed (all_lines words) (plain_lines words image) in
-    let count : length (pieces_of text) ≤ n + 1 =
-    omega (arith, ap length pieces, length-map (all_lines words) fed, length_push (map (data_line words) (range_with_len 0 n)) (record_line 1 0 []), length-map-range_with_len (data_line words) 0 n) in
-    let whole : concat (take (n + 1) (pieces_of text)) ≡ text =
-    ap concat (take_all (n + 1) (pieces_of text) count ∙ pieces) ∙ concat-fed (all_lines words) ∙ sym (written-fed words) in
+    let count : length (pieces_of text) ≤ end_line text =
+    omega (arith, all.number, ap length pieces, length-map (all_lines words) fed, length_push (data_lines words n) end) in
+    let whole : concat (take (end_line text) (pieces_of text)) ≡ text =
+    ap concat (take_all (end_line text) (pieces_of text) count ∙ pieces) ∙ concat-fed (all_lines words) ∙ sym (written-fed words) in
     record {
-      before = n;
-      ends = ends;
-      lines = subst (λ z. All IsBeforeEnd z) (sym front) right;
-      different = subst (λ z. AreDifferent (places_of z)) (sym cells) sound.different;
-      small = subst (λ z. All (λ place. place < most_bytes) (places_of z)) (sym cells) sound.small;
+      sound = all.sound;
       image = image_back words ∙ ap image_of_cells (sym cells);
       cut = ap length (sym whole);
     }

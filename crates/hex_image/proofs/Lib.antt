@@ -3,8 +3,9 @@ pub mod LineLemmas
 pub mod PlaceLemmas
 pub mod ReadingLemmas
 pub mod TextLemmas
-pub mod GrammarLemmas
 pub mod LawLemmas
+mod LineAgreement
+mod TextAgreement
 pub mod WrittenLemmas
 pub mod BackLemmas
 pub mod Worked

@@ -1,6 +1,6 @@
 -- Bytes at their places.
 use Rattle.std.proofs.Common.{◌≡◌, ◌≢◌, ℕ, suc, zero, ◌+◌, ◌<◌, ◌≤◌, ◌==◌, max, cond, true, false, Bool, ◌||◌, List, [], ◌∷◌, ◌++◌, length, get_or, take, refl, sym, ap, ◌∙◌, arith, inl, inr, Some, None, Option}
-use Rattle.std.specs.Prelude.{nat_lt, nat_le, is_some, ◌⊎◌}
+use Rattle.std.specs.Prelude.{nat_lt, is_some, ◌⊎◌}
 use Rattle.std.specs.Option.{option_or}
 use Rattle.std.specs.List.{enumerate_from, list_any, range_with_len}
 use Rattle.std.proofs.lemmas.Bool.{cases_eq}
@@ -10,8 +10,8 @@ use Rattle.std.proofs.lemmas.List.Folds.{list_any-append, list_any_at}
 use Rattle.std.proofs.lemmas.List.FromFn.{get_or-enumerate_from, get_or-range_with_len, length-enumerate_from, length-range_with_len}
 use Rattle.hex_image.specs.Image.{most_bytes}
 use Rattle.hex_image.specs.declared.fault.HexFault.TheVariants.{Wrap, Twice, TooLarge}
-use Rattle.hex_image.specs.Places.{Cell, byte_given, extent, place_fault}
-use Rattle.hex_image.specs.Reading.{AreSlots}
+use Rattle.hex_image.specs.Places.{Cell, byte_given, extent}
+use Rattle.hex_image.specs.Reading.{AreSlots, place_fault}
 use Rattle.base_laws.proofs.Ranges.{range_with_len-push}
 
 -- none of some places and not the next
@@ -46,32 +46,43 @@ pub any_given : (cells : List Cell) (slots : List (Option ℕ)) (xs : List ℕ) 
     → list_any (λ place. is_some (byte_given cells place)) xs ≡ list_any (λ place. is_some (get_or slots place None)) xs
 any_given cells slots xs are = any_same (λ place. is_some (byte_given cells place)) (λ place. is_some (get_or slots place None)) (λ place. ap is_some (sym (are.bytes place))) xs
 
--- places in a row reach the limit where the last of them does
-pub any_large : (a n : ℕ) → list_any (λ place. nat_le most_bytes place) (range_with_len a n) ≡ nat_lt (max most_bytes a) (a + n)
-any_large a zero = grind (arith, nat_tests)
-any_large a (suc n) =
-    ap (λ z. nat_le most_bytes a || z) (any_large (a + 1) n) ∙ grind (arith, nat_tests)
+-- a test of the places of bytes in a row
+places_any : (test : ℕ → Bool) (start : ℕ) (content : List ℕ) → list_any (λ (cell : Cell). test cell.0) (enumerate_from start content) ≡ list_any test (range_with_len start (length content))
+places_any test start [] = refl
+places_any test start (byte ∷ bytes) = ap (λ z. test start || z) (places_any test (start + 1) bytes)
+
+-- how far bytes in a row reach
+pub extent-row : (start : ℕ) (byte : ℕ) (bytes : List ℕ) → extent (enumerate_from start (byte ∷ bytes)) ≡ start + length (byte ∷ bytes)
+extent-row start byte [] = omega arith
+extent-row start byte (next ∷ bytes) = omega (arith, extent-row (start + 1) next bytes)
+
+row_large : (start : ℕ) (content : List ℕ) → nat_lt most_bytes (extent (enumerate_from start content)) ≡ nat_lt (max most_bytes start) (start + length content)
+row_large start [] = grind (arith, nat_tests)
+row_large start (byte ∷ bytes) = ap (nat_lt most_bytes) (extent-row start byte bytes) ∙ grind (arith, nat_tests)
 
 -- the first fault, by the tests
 pub fault_by : (cells : List Cell) (from address : ℕ) (content : List ℕ) (w t l : Bool) → nat_lt 65536 (address + length content) ≡ w
     → list_any (λ place. is_some (byte_given cells place)) (range_with_len (from + address) (length content)) ≡ t
-    → list_any (λ place. nat_le most_bytes place) (range_with_len (from + address) (length content)) ≡ l
+    → nat_lt most_bytes (extent (enumerate_from (from + address) content)) ≡ l
     → place_fault cells from address content ≡ cond w (Some Wrap) (cond t (Some Twice) (cond l (Some TooLarge) None))
-fault_by cells from address content w t l wraps given large = rw (wraps, given, large) refl
+fault_by cells from address content w t l wraps given large =
+    let twice : list_any (λ (cell : Cell). is_some (byte_given cells cell.0)) (enumerate_from (from + address) content) ≡ t =
+    places_any (λ place. is_some (byte_given cells place)) (from + address) content ∙ given in
+    rw (wraps, twice, large) refl
 
--- the first fault of a record whose addresses don't wrap and whose places are free
-pub large_or_none : (cells : List Cell) (slots : List (Option ℕ)) (from start address : ℕ) (content : List ℕ) (l : Bool) → AreSlots cells slots
+-- the first fault of a record whose addresses don't wrap, by the slots
+pub fault_by_slots : (cells : List Cell) (slots : List (Option ℕ)) (from start address : ℕ) (content : List ℕ) (t l : Bool) → AreSlots cells slots
     → address + length content ≤ 65536 → start ≡ from + address
-    → list_any (λ place. is_some (get_or slots place None)) (range_with_len start (length content)) ≡ false
+    → list_any (λ place. is_some (get_or slots place None)) (range_with_len start (length content)) ≡ t
     → nat_lt (max most_bytes start) (start + length content) ≡ l
-    → place_fault cells from address content ≡ cond l (Some TooLarge) None
-large_or_none cells slots from start address content l are fits is free large =
+    → place_fault cells from address content ≡ cond t (Some Twice) (cond l (Some TooLarge) None)
+fault_by_slots cells slots from start address content t l are fits is free large =
     let wraps : nat_lt 65536 (address + length content) ≡ false = grind (arith, nat_tests) in
-    let given : list_any (λ place. is_some (byte_given cells place)) (range_with_len (from + address) (length content)) ≡ false =
+    let given : list_any (λ place. is_some (byte_given cells place)) (range_with_len (from + address) (length content)) ≡ t =
     rw (← is) (any_given cells slots (range_with_len start (length content)) are ∙ free) in
-    let beyond : list_any (λ place. nat_le most_bytes place) (range_with_len (from + address) (length content)) ≡ l =
-    rw (← is) (any_large start (length content) ∙ large) in
-    fault_by cells from address content false false l wraps given beyond
+    let beyond : nat_lt most_bytes (extent (enumerate_from (from + address) content)) ≡ l =
+    rw (← is) (row_large start content ∙ large) in
+    fault_by cells from address content false t l wraps given beyond
 
 chosen : (byte : ℕ) (b : Bool) (o p q : Option ℕ) → o ≡ option_or p q → cond b (Some byte) o ≡ option_or (cond b (Some byte) p) q
 chosen byte true o p q e = refl
@@ -86,7 +97,7 @@ extent-append [] ys = omega arith
 extent-append (x ∷ xs) ys = omega (arith, extent-append xs ys)
 
 -- the places of bytes in a row are below the next
-fresh : (i start place : ℕ) (content : List ℕ) → start + i ≤ place → byte_given (take i (enumerate_from start content)) place ≡ None
+pub fresh : (i start place : ℕ) (content : List ℕ) → start + i ≤ place → byte_given (take i (enumerate_from start content)) place ≡ None
 fresh zero start place content above = refl
 fresh (suc i) start place [] above = refl
 fresh (suc i) start place (byte ∷ bytes) above =

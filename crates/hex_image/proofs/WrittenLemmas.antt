@@ -1,5 +1,5 @@
 -- What is written is read back, line by line.
-use Rattle.std.proofs.Common.{◌≡◌, ℕ, zero, suc, ◌+◌, ◌-◌, ◌/◌, ◌%◌, ◌<◌, ◌==◌, nat_lt, not, ◌||◌, true, false, cond, Bool, List, [], ◌∷◌, ◌++◌, length, get_or, take, sum, refl, ap, ◌∙◌, arith, None, Ok, Result}
+use Rattle.std.proofs.Common.{◌≡◌, ℕ, zero, suc, ◌+◌, ◌-◌, ◌/◌, ◌%◌, ◌<◌, ◌==◌, nat_lt, not, ◌||◌, true, false, cond, Bool, List, [], ◌∷◌, ◌++◌, length, get_or, take, sum, refl, sym, ap, ◌∙◌, arith, None, Ok, Result}
 use Rattle.std.specs.Prelude.{◌≢◌}
 use Rattle.std.specs.List.{AllPass}
 use Rattle.std.specs.Result.{result_unwrap_or}
@@ -12,9 +12,9 @@ use Rattle.hex.specs.declared.error.FromHexError.{FromHexError}
 use Rattle.hex.proofs.HexLemmas.{decode_of-encode_upper, decode_of-ok}
 use Rattle.line_reader.specs.Cutting.{Lacks}
 use Rattle.line_reader.specs.Written.{IsPlain}
-use Rattle.hex_image.specs.Lines.{has_right_count, judged, meaning_of, own_fault, record_meaning}
+use Rattle.hex_image.specs.Lines.{address_in, bytes_of, content_in, has_right_count, kind_in}
 use Rattle.hex_image.specs.Written.{checksum_of, fields_of, record_bytes, record_line}
-use Rattle.hex_image.specs.Reading.{fault_in, meaning_in}
+use Rattle.hex_image.specs.Reading.{IsData, fault_in, own_fault}
 use Rattle.hex_image.proofs.LineLemmas.{own_in}
 
 -- a record that has a line
@@ -59,20 +59,30 @@ record_bytes-sound kind address content w =
     let fields = fields_of kind address content in
     rw (length_push content (checksum_of fields), whole_length (length content), sum-push fields (checksum_of fields), balanced (sum fields), w.right) refl
 
--- and say what the record says
-record_bytes-meaning : (kind address : ℕ) (content : List ℕ) → meaning_in (record_bytes kind address content) ≡ record_meaning kind address content
-record_bytes-meaning kind address content =
-    let fields = fields_of kind address content in
-    ap (λ z. record_meaning kind z (take (length content) (content ++ checksum_of fields ∷ []))) (omega arith) ∙ ap (record_meaning kind address) (take_at content (checksum_of fields ∷ []) (length content) refl)
+-- a line that is written has the bytes of its record
+pub record_line-bytes : (kind address : ℕ) (content : List ℕ) → IsWritable kind address content → bytes_of (record_line kind address content) ≡ record_bytes kind address content
+record_line-bytes kind address content w =
+    ap (λ (r : Result (List ℕ) FromHexError). result_unwrap_or r []) (decode_of-encode_upper (record_bytes kind address content) (record_bytes-fit kind address content w))
 
--- a line that is written says what its record says
-pub record_line-meaning : (kind address : ℕ) (content : List ℕ) → IsWritable kind address content → meaning_of (record_line kind address content) ≡ record_meaning kind address content
-record_line-meaning kind address content w =
+-- and no fault of its own
+pub record_line-sound : (kind address : ℕ) (content : List ℕ) → IsWritable kind address content → own_fault (record_line kind address content) ≡ None
+record_line-sound kind address content w =
     let bytes = record_bytes kind address content in
     let digits = encode_upper bytes in
     let decoded : decode_of digits ≡ Ok bytes = decode_of-encode_upper bytes (record_bytes-fit kind address content w) in
-    let sound : own_fault (58 ∷ digits) ≡ None = own_in digits bytes ((decode_of-ok digits bytes decoded).1) decoded ∙ record_bytes-sound kind address content w in
-    ap (judged (58 ∷ digits)) sound ∙ ap meaning_in (ap (λ (r : Result (List ℕ) FromHexError). result_unwrap_or r []) decoded) ∙ record_bytes-meaning kind address content
+    own_in digits bytes ((decode_of-ok digits bytes decoded).1) decoded ∙ record_bytes-sound kind address content w
+
+-- a data record gives its bytes
+pub data_line-is : (address : ℕ) (content : List ℕ) → IsWritable 0 address content → IsData (record_line 0 address content) address content
+data_line-is address content w =
+    let fields = fields_of 0 address content in
+    let bytes = record_line-bytes 0 address content w in
+    record {
+      sound = record_line-sound 0 address content w;
+      kind = ap kind_in bytes;
+      address_is = sym (ap address_in bytes ∙ omega arith);
+      content_is = sym (ap content_in bytes ∙ take_at content (checksum_of fields ∷ []) (length content) refl);
+    }
 
 abbrev IsDigit : ℕ → Type 0
 IsDigit c = is_hex_digit c ≡ true

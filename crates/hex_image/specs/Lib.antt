@@ -7,3 +7,4 @@ pub mod Written
 pub mod Reading
 pub mod Kinds
 pub mod Laws
+pub mod GrammarLaw

@@ -1,4 +1,5 @@
 //! Laws of texts, for callers' proofs.
+ghost use Rattle.hex_image.specs.GrammarLaw.{FaultsAgree, ImagesAgree};
 ghost use Rattle.hex_image.specs.Laws.{HasImageOrFault, HasNeverBoth, HasOneFault, HasOneImage};
 
 /// A text has one image at most, and one position at which the text behind it begins.
@@ -15,4 +16,10 @@ pub fn one_fault()
 pub fn image_or_fault()
     ensures either { HasImageOrFault }
     ensures never_both { HasNeverBoth }
+{}
+
+/// A text has an image, or a first fault, just where the format says so of all its lines at once.
+pub fn grammar()
+    ensures image { ImagesAgree }
+    ensures fault { FaultsAgree }
 {}

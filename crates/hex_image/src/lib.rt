@@ -7,12 +7,13 @@
 //! ```
 //!
 //! [`read`] gives the image of a text and the position behind its end record's line, or the first faulty
-//! line and the first of its faults; [`write`] gives the text of an image. What a text's image and its
-//! first fault are is defined over all lines at once: which lines a text has is said by `line_reader`, what
-//! one line says by `specs/Lines.antt`, where the bytes of lines stand by `specs/Places.antt`, and which
-//! texts have an image and what is wrong with the others by `specs/HexText.antt`. The code reads line by
-//! line, with a running base, and keeps each byte at its place. [`one_image`], [`one_fault`] and
-//! [`image_or_fault`] are laws of these definitions, for callers' proofs.
+//! line and the first of its faults; [`write`] gives the text of an image. Which lines a text has, and which
+//! of them is the first that has a fault, is said by `line_reader`; what one line says by
+//! `specs/Lines.antt`, where the bytes of lines stand by `specs/Places.antt`, and which faults a line has
+//! behind others, and which texts an image, by `specs/HexText.antt`. As the code does, these go line by
+//! line, with a running base. [`grammar`] is the law that they say what the format says of all lines at once
+//! (`specs/GrammarLaw.antt`); [`one_image`], [`one_fault`] and [`image_or_fault`] are laws of them too, for
+//! callers' proofs.
 #![tactic(auto)]
 
 mod fault;
@@ -27,6 +28,6 @@ mod written;
 
 pub use fault::{HexError, HexFault};
 pub use image::{Image, MOST_WORDS};
-pub use laws::{image_or_fault, one_fault, one_image};
+pub use laws::{grammar, image_or_fault, one_fault, one_image};
 pub use text::read;
 pub use written::write;

@@ -3,8 +3,8 @@ ghost use Rattle.std.specs.Prelude.{◌≡◌, ◌<◌, ◌≤◌, ◌%◌, ◌�
 ghost use Rattle.std.specs.List.{AllPass};
 ghost use Rattle.hex.specs.Hex.{is_hex_digit};
 ghost use Rattle.hex_image.specs.Kinds.{code_of};
-ghost use Rattle.hex_image.specs.Lines.{has_right_count, meaning_of, own_fault, record_meaning, word_in};
-ghost use Rattle.hex_image.specs.Reading.{IsRecordOf, IsRecordOfBytes, seen};
+ghost use Rattle.hex_image.specs.Lines.{has_right_count, word_in};
+ghost use Rattle.hex_image.specs.Reading.{IsRecordOf, IsRecordOfBytes, IsTold, Says, own_fault};
 
 use crate::fault::HexFault;
 use crate::kind::Kind;
@@ -38,7 +38,7 @@ pub(crate) enum Line {
 
 /// What a line says, which stands without its line end.
 pub(crate) fn judge(line: &[u8]) -> Line
-    ensures value { seen result ≡ meaning_of line.now }
+    ensures told { IsTold line.now result }
 {
     if line.is_empty() {
         return Line::Blank;
@@ -130,7 +130,7 @@ pub(crate) fn byte_sum(bytes: &[u8]) -> u8
 fn meaning(kind: Kind, address: u16, content: &[u8]) -> Line
     requires short { length content.now ≤ 255 }
     requires count { has_right_count (code_of kind) (length content.now) ≡ true }
-    ensures value { seen result ≡ record_meaning (code_of kind) address content.now }
+    ensures says { Says (code_of kind) address content.now result }
 {
     match kind {
         Kind::Data => Line::Data {

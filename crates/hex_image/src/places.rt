@@ -1,8 +1,8 @@
 //! Bytes at their places.
 ghost use Rattle.std.specs.Prelude.{◌≡◌, ◌≢◌, ◌+◌, ◌<◌, ◌^◌, ℕ, List, [], ◌++◌, length, max, is_some, slice_index_or, unwrap_or, false, OnOk, OnErr, Some, None};
 ghost use Rattle.std.specs.List.{enumerate_from, list_any, range_with_len};
-ghost use Rattle.hex_image.specs.Places.{Cell, byte_given, place_fault};
-ghost use Rattle.hex_image.specs.Reading.{AreSlots};
+ghost use Rattle.hex_image.specs.Places.{Cell, byte_given};
+ghost use Rattle.hex_image.specs.Reading.{AreSlots, place_fault};
 
 use crate::fault::HexFault;
 use crate::image::MOST_WORDS;

@@ -1,7 +1,7 @@
 //! What has been read of a text.
-ghost use Rattle.std.specs.Prelude.{◌≤◌, List, [], length};
-ghost use Rattle.hex_image.specs.Lines.{Meaning, bytes_at};
-ghost use Rattle.hex_image.specs.Reading.{IsReading, IsStep, seen};
+ghost use Rattle.std.specs.Prelude.{◌≤◌, ℕ, List, length};
+ghost use Rattle.hex_image.specs.Places.{Known, nothing};
+ghost use Rattle.hex_image.specs.Reading.{IsData, IsReading, IsStep, IsTold};
 
 use crate::fault::HexFault;
 use crate::line::Line;
@@ -38,7 +38,7 @@ pub(crate) enum Refusal {
 impl Reading {
     /// What is known before the first line.
     pub(crate) fn new(alloc: Global) -> Reading
-        ensures start { IsReading [] result }
+        ensures start { IsReading nothing result }
     {
         Reading {
             base: 0,
@@ -48,7 +48,8 @@ impl Reading {
 
     /// Takes the next line.
     pub(crate) fn take_line(&mut self, line: Line) -> Result<Step, Refusal>
-        ensures step { (lines : List Meaning) → IsReading lines self.old → IsStep lines (seen line) self.new result }
+        ensures step { (known : Known) (bytes : List ℕ) → IsTold bytes line → IsReading known self.old
+            → IsStep known bytes self.new result }
     {
         match line {
             Line::Blank => Ok(Step::Next),
@@ -66,8 +67,8 @@ impl Reading {
     /// Takes the bytes of a data record.
     fn take_data(&mut self, address: u16, content: &[u8]) -> Result<Step, Refusal>
         requires { length content.now ≤ 255 }
-        ensures step { (lines : List Meaning) → IsReading lines self.old
-            → IsStep lines (bytes_at address content.now) self.new result }
+        ensures step { (known : Known) (bytes : List ℕ) → IsData bytes address content.now → IsReading known self.old
+            → IsStep known bytes self.new result }
     {
         match place_fault(self.slots.as_slice(), self.base, address, content) {
             Some(fault) => return Err(Refusal::Fault(fault)),

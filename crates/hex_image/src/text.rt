@@ -1,10 +1,10 @@
 //! Texts of records.
-ghost use Rattle.std.specs.Prelude.{◌≡◌, ◌≤◌, ◌+◌, ◌/◌, ◌<◌, ◌^◌, ℕ, List, length, map, All, IfOk, OnErr, MatchResult, ◌⊎◌, Err};
+ghost use Rattle.std.specs.Prelude.{◌≡◌, ◌≤◌, ◌+◌, ◌/◌, ◌<◌, ◌^◌, ℕ, List, length, map, All, IfOk, OnErr, MatchResult, ◌⊎◌, Err, Some};
 ghost use Rattle.hex_image.specs.declared.fault.HexFault.{HexFault};
 ghost use Rattle.hex_image.specs.declared.fault.HexError.{HexError};
 ghost use Rattle.std.specs.List.{range_with_len};
 ghost use Rattle.hex_image.specs.Image.{most_bytes};
-ghost use Rattle.hex_image.specs.HexText.{HexBad, HexText, NeedsMemory};
+ghost use Rattle.hex_image.specs.HexText.{HexText, NeedsMemory, hex_fault};
 ghost use Rattle.hex_image.specs.Reading.{IsAnswer, IsImageAnswer, word_of_slots};
 
 use crate::fault::{HexError, HexFault};
@@ -26,10 +26,10 @@ pub fn read(alloc: Global, text: &[u8]) -> Result<(Image, usize), HexError>
         → MatchResult result (λ read. (read.0 ≡ words) × (read.1 ≡ position)) (λ error. error ≡ HexError.NoMemory) }
 
     // What is refused has this fault first, in this line.
-    ensures bad { (line : ℕ) (fault : HexFault) → result ≡ Err (HexError.Bad line fault) → HexBad text.now line fault }
+    ensures bad { (line : ℕ) (fault : HexFault) → result ≡ Err (HexError.Bad line fault) → hex_fault text.now ≡ Some (line, fault) }
 
     // A text with a fault is refused for it, unless memory runs out.
-    ensures bad_only { (line : ℕ) (fault : HexFault) → HexBad text.now line fault
+    ensures bad_only { (line : ℕ) (fault : HexFault) → hex_fault text.now ≡ Some (line, fault)
         → (result ≡ Err (HexError.Bad line fault)) ⊎ (result ≡ Err HexError.NoMemory) }
 
     // Memory is wanted only for bytes that a record gives.

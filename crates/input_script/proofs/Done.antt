@@ -1,74 +1,64 @@
 -- The lines that are read so far, and what reading one more makes of them.
-use Rattle.std.proofs.Common.{◌≡◌, ℕ, ◌+◌, ◌≤◌, arith, List, [], ◌∷◌, ◌++◌, length, ap, ◌∙◌, sym, subst}
-use Rattle.std.proofs.lemmas.List.{append_assoc, append-nil, length_push}
-use Rattle.input_script.specs.declared.line.Statement.{Statement}
-use Rattle.input_script.specs.declared.fault.ScriptFault.{ScriptFault}
-use Rattle.input_script.specs.Grammar.{IsStatement}
-use Rattle.input_script.specs.Script.{Schedule, Spells, Accepts, IsFirstFault, IsFaulty, NeedsMemory, said, size}
+use Rattle.std.proofs.Common.{◌≡◌, ℕ, ◌+◌, ◌⊎◌, arith, List, [], ◌∷◌, ◌++◌, length, Result, Ok, Err, ap, ap₂, ◌∙◌, sym, refl, inl, inr}
+use Rattle.std.specs.Prelude.{IsErrAnd, Some}
+use Rattle.std.proofs.lemmas.List.{append_assoc, length_push}
 use Rattle.line_reader.specs.Lines.{lines_of}
-use Rattle.input_script.specs.Judging.{IsNext, Takes, with_last}
-use Rattle.input_script.proofs.Spelling.{last_joined, spells_join, spells_line}
-use Rattle.input_script.proofs.Schedules.{schedule_next, size_joined}
+use Rattle.line_reader.specs.Faults.{first_fault}
+use Rattle.line_reader.proofs.FaultLaws.{after_both, fault_here, none_more}
+use Rattle.input_script.proofs.Judgement.{never_both, one_fault}
+use Rattle.input_script.specs.declared.fault.ScriptFault.{ScriptFault}
+use Rattle.input_script.specs.declared.fault.ScriptError.{ScriptError}
+use Rattle.input_script.specs.declared.fault.ScriptError.TheVariants.{Bad, NoMemory}
+use Rattle.input_script.specs.Script.{Schedule, IsScript, NeedsMemory, after, fault_at, nothing, script_fault, size}
+use Rattle.input_script.specs.Judging.{IsDone, IsRefusal, Takes}
 
--- the first lines, as many as number, are accepted with this schedule, and these are the others
-pub record IsDone (lines : List (List ℕ)) (number : ℕ) (schedule : Schedule) (rest : List (List ℕ)) : Type 0 where
-  pub front : List (List ℕ)
-  pub cut : lines ≡ front ++ rest
-  pub number_is : number ≡ length front
-  pub accepted : Accepts front schedule
-
--- a line whose statement comes next
-pub done_statement : (lines rest : List (List ℕ)) (line : List ℕ) (number : ℕ) (before : Schedule) (statement : Statement) → IsDone lines number before (line ∷ rest) → IsStatement line statement → IsNext before statement → IsDone lines (number + 1) (with_last before statement) rest
-done_statement lines rest line number before statement done written next =
-    let P : Schedule → Type 0 = λ s. Spells (done.front ++ line ∷ []) s in
-    record {
-      front = done.front ++ line ∷ [];
-      cut = done.cut ∙ sym (append_assoc done.front (line ∷ []) rest);
-      number_is = ap (λ n. n + 1) done.number_is ∙ sym (length_push done.front line);
-      accepted = record {
-        spelled = subst P (sym (last_joined before statement)) (spells_join done.front (line ∷ []) before (said statement) done.accepted.spelled (spells_line line statement written));
-        in_order = schedule_next before statement done.accepted.in_order next;
-      };
-    }
-
--- a line that was taken
-pub done_take : (lines rest : List (List ℕ)) (line : List ℕ) (number : ℕ) (before after : Schedule) → IsDone lines number before (line ∷ rest) → Takes line before after → IsDone lines (number + 1) after rest
-done_take lines rest line number before after done takes =
-    let P : Schedule → Type 0 = λ s. IsDone lines (number + 1) s rest in
-    subst P (sym takes.3) (done_statement lines rest line number before takes.0 done takes.1 takes.2)
-
-pub done_fault : (lines rest : List (List ℕ)) (line : List ℕ) (number : ℕ) (before : Schedule) (fault : ScriptFault) → IsDone lines number before (line ∷ rest) → IsFirstFault fault before line → IsFaulty lines (number + 1) fault
-done_fault lines rest line number before fault done faulty = record {
-  front = done.front;
-  line = line;
-  rest = rest;
-  cut = done.cut;
-  number_is = ap (λ n. n + 1) done.number_is;
-  before = before;
-  accepted = done.accepted;
-  fault_is = faulty;
+-- one line more
+pub done_take : (lines rest : List (List ℕ)) (line : List ℕ) (number other : ℕ) (before behind : Schedule) → IsDone lines number before (line ∷ rest) → Takes line before behind → other ≡ number + 1
+    → IsDone lines other behind rest
+done_take lines rest line number other before behind done takes next = record {
+  front = done.front ++ line ∷ [];
+  cut = done.cut ∙ sym (append_assoc done.front (line ∷ []) rest);
+  number_is = next ∙ ap (λ n. n + 1) done.number_is ∙ sym (length_push done.front line);
+  sound = none_more fault_at after 1 nothing done.front line done.sound (ap (λ s. fault_at s line) (sym done.schedule_is) ∙ takes.sound);
+  schedule_is = takes.behind_is ∙ ap (λ s. after s line) done.schedule_is ∙ sym (after_both fault_at after nothing done.front (line ∷ []));
 }
 
--- memory was wanted for the next statement
-pub done_memory : (text : List ℕ) (rest : List (List ℕ)) (line : List ℕ) (number : ℕ) (before : Schedule) (statement : Statement) → IsDone (lines_of text) number before (line ∷ rest) → IsStatement line statement → IsNext before statement → 1 ≤ size (said statement) → NeedsMemory text
-done_memory text rest line number before statement done written next some =
-    let more = done_statement (lines_of text) rest line number before statement done written next in
-    record {
-      front = more.front;
-      rest = rest;
-      cut = more.cut;
-      schedule = with_last before statement;
-      accepted = more.accepted;
-      some = omega (arith, ap size (last_joined before statement), size_joined before (said statement));
-    }
+-- a line with a fault is the first
+pub done_fault : (lines rest : List (List ℕ)) (line : List ℕ) (number : ℕ) (before : Schedule) (fault : ScriptFault) → IsDone lines number before (line ∷ rest) → fault_at before line ≡ Some fault
+    → first_fault fault_at after 1 nothing lines ≡ Some (number + 1, fault)
+done_fault lines rest line number before fault done is =
+    let same : 1 + length done.front ≡ number + 1 = omega (arith, done.number_is) in
+    ap (first_fault fault_at after 1 nothing) done.cut
+    ∙ fault_here fault_at after 1 nothing done.front rest line fault done.sound (ap (λ s. fault_at s line) (sym done.schedule_is) ∙ is)
+    ∙ ap (λ n. Some (n, fault)) same
 
-pub done_all : (lines : List (List ℕ)) (number : ℕ) (schedule : Schedule) → IsDone lines number schedule [] → Accepts lines schedule
-done_all lines number schedule done =
-    let P : List (List ℕ) → Type 0 = λ all. Accepts all schedule in
-    subst P (sym (done.cut ∙ append-nil done.front)) done.accepted
+-- What an error says of the text. ------------------------------------------------------------------------
 
--- a number of lines that is written otherwise
-pub done_numbered : (lines rest : List (List ℕ)) (number other : ℕ) (schedule : Schedule) → IsDone lines number schedule rest → other ≡ number → IsDone lines other schedule rest
-done_numbered lines rest number other schedule done same =
-    let P : ℕ → Type 0 = λ n. IsDone lines n schedule rest in
-    subst P (sym same) done
+-- the error names the text's fault, or there is a line for which memory was wanted
+abbrev pub Tells : List ℕ → ScriptError → Type 0
+Tells text NoMemory = NeedsMemory text
+Tells text (Bad line fault) = script_fault text ≡ Some (line, fault)
+
+pub refusal_tells : (text : List ℕ) (rest : List (List ℕ)) (line : List ℕ) (number other : ℕ) (before : Schedule) (error : ScriptError) → IsDone (lines_of text) number before (line ∷ rest)
+    → IsRefusal error other line before → other ≡ number + 1
+    → Tells text error
+refusal_tells text rest line number other before NoMemory done refusal next =
+    let more = done_take (lines_of text) rest line number other before (after before line) done (record { sound = refusal.0; behind_is = refl }) next in
+    record { front = more.front; rest = rest; cut = more.cut; sound = more.sound; some = omega (arith, refusal.1, ap size more.schedule_is) }
+refusal_tells text rest line number other before (Bad at fault) done refusal next =
+    done_fault (lines_of text) rest line number before fault done refusal.1 ∙ ap (λ n. Some (n, fault)) (sym (refusal.0 ∙ next))
+
+pub refused_text : (text : List ℕ) (error : ScriptError) → Tells text error → (schedule : Schedule) → IsScript text schedule → error ≡ NoMemory
+refused_text text NoMemory tells schedule script = refl
+refused_text text (Bad line fault) tells schedule script = absurd (never_both text schedule line fault script tells)
+
+pub refused_as : (text : List ℕ) (error : ScriptError) → Tells text error → (line : ℕ) (fault : ScriptFault) → script_fault text ≡ Some (line, fault) → (error ≡ Bad line fault) ⊎ (error ≡ NoMemory)
+refused_as text NoMemory tells line fault bad = inr refl
+refused_as text (Bad at other) tells line fault bad =
+    let same = one_fault text at line other fault tells bad in
+    inl (ap₂ (λ n f. Bad n f) same.0 same.1)
+
+-- an answer that passes an error on
+pub err_is : {T : Type 0} (result : Result T ScriptError) (error : ScriptError) → IsErrAnd result (λ e. e ≡ error) → result ≡ Err error
+err_is (Ok x) error passed = absurd passed
+err_is (Err e) error passed = ap (λ x. Err x) passed

@@ -1,10 +1,11 @@
-mod Events
-mod Statements
-mod Reading
-mod Spelling
-mod Schedules
-pub mod Judgement
+-- Lemmas on lines and scripts, and lines with what they say.
+pub mod Digits
+mod Words
+mod Order
+pub mod Schedules
+pub mod Done
 pub mod EventLines
-mod Done
-mod Answered
-pub mod WorkedLines
+mod LineAgreement
+mod TextAgreement
+pub mod Judgement
+mod WorkedLines

@@ -1,89 +1,120 @@
--- Worked values: a line with a value of each width, values of other widths, and a text of three lines.
-use Rattle.std.proofs.Common.{◌≡◌, ℕ, zero, suc, ◌+◌, [], ◌∷◌, length, length-append, codes, ap, ◌∙◌, arith, refl, inr}
-use Rattle.std.specs.Prelude.{All}
-use Rattle.input_script.specs.declared.input.Kind.TheVariants.{PinC, Serial, Analog, Interrupt}
+-- Lines and texts, right and wrong, with what they say.
+use Rattle.std.proofs.Common.{◌≡◌, [], ◌∷◌, codes, refl}
+use Rattle.std.specs.Prelude.{Some, None}
 use Rattle.input_script.specs.declared.input.Input.TheVariants.{Pin, Uart, Adc, Int}
-use Rattle.input_script.specs.declared.input.Event.{Event}
 use Rattle.input_script.specs.declared.line.Statement.TheVariants.{Nothing, At, FailFlash}
-use Rattle.input_script.specs.Grammar.{IsStatement, IsValue}
-use Rattle.input_script.specs.Script.{IsInRange, IsScript, nothing}
+use Rattle.input_script.specs.declared.fault.ScriptFault.TheVariants.{Form, Order, Range}
+use Rattle.input_script.specs.Grammar.{statement_of}
+use Rattle.input_script.specs.Script.{IsScript, script_fault, nothing}
 
-pin : IsStatement (codes "at 1 pinc 0x0f") (At 1 (Pin 2 15))
-pin = record {
-  number = codes "1";
-  rest = codes "pinc 0x0f";
-  written = refl;
-  at = record { digits = (omega arith, tt); some = omega arith; most = omega arith; value = refl };
-  input = record { kind = PinC; rest = codes "0x0f"; value = 15; written = refl; valued = record { number = codes "0f"; written = refl; digits = (omega arith, (omega arith, tt)); width = refl; value_is = refl }; meaning = refl };
-}
+pub pins : statement_of (codes "at 1 pina 0x0f") ≡ Some (At 1 (Pin 0 15))
+pins = refl
 
-serial : IsStatement (codes "at 22 uart 0x41") (At 22 (Uart 65))
-serial = record {
-  number = codes "22";
-  rest = codes "uart 0x41";
-  written = refl;
-  at = record { digits = (omega arith, (omega arith, tt)); some = omega arith; most = omega arith; value = refl };
-  input = record { kind = Serial; rest = codes "0x41"; value = 65; written = refl; valued = record { number = codes "41"; written = refl; digits = (omega arith, (omega arith, tt)); width = refl; value_is = refl }; meaning = refl };
-}
+pub other_pins : statement_of (codes "at 1 pind 0xF0") ≡ Some (At 1 (Pin 3 240))
+other_pins = refl
 
-analog : IsStatement (codes "at 7 adc 0x0A3") (At 7 (Adc 163))
-analog = record {
-  number = codes "7";
-  rest = codes "adc 0x0A3";
-  written = refl;
-  at = record { digits = (omega arith, tt); some = omega arith; most = omega arith; value = refl };
-  input = record { kind = Analog; rest = codes "0x0A3"; value = 163; written = refl; valued = record { number = codes "0A3"; written = refl; digits = (omega arith, (omega arith, (omega arith, tt))); width = refl; value_is = refl }; meaning = refl };
-}
+pub serial : statement_of (codes "at 0022 uart 0x41") ≡ Some (At 22 (Uart 65))
+serial = refl
 
-interrupt : IsStatement (codes "at 9 int 7") (At 9 (Int 7))
-interrupt = record {
-  number = codes "9";
-  rest = codes "int 7";
-  written = refl;
-  at = record { digits = (omega arith, tt); some = omega arith; most = omega arith; value = refl };
-  input = record { kind = Interrupt; rest = codes "7"; value = 7; written = refl; valued = record { number = codes "7"; written = refl; digits = (omega arith, tt); width = refl; value_is = refl }; meaning = refl };
-}
+pub analog : statement_of (codes "at 7 adc 0x0A3") ≡ Some (At 7 (Adc 163))
+analog = refl
 
-fail : IsStatement (codes "fail flash 0012") (FailFlash 12)
-fail = record {
-  number = codes "0012";
-  written = refl;
-  operation_is = record { digits = (omega arith, (omega arith, (omega arith, (omega arith, tt)))); some = omega arith; most = omega arith; value = refl };
-}
+pub interrupt : statement_of (codes "at 9 int 7") ≡ Some (At 9 (Int 7))
+interrupt = refl
 
--- two digits are no value of the converter, three none of a pin, and two none of an interrupt
-two_digits : (value : ℕ) → ¬ IsValue Analog (codes "0xA3") value
-two_digits value is = let long : 4 ≡ 2 + length is.number = ap length is.written ∙ length-append (codes "0x") is.number in omega (arith, is.width, long)
+pub fail : statement_of (codes "fail flash 0012") ≡ Some (FailFlash 12)
+fail = refl
 
-three_digits : (value : ℕ) → ¬ IsValue PinC (codes "0x00F") value
-three_digits value is = let long : 5 ≡ 2 + length is.number = ap length is.written ∙ length-append (codes "0x") is.number in omega (arith, is.width, long)
+pub comment : statement_of (codes "# at 1 int 7") ≡ Some Nothing
+comment = refl
 
-two_of_an_interrupt : (value : ℕ) → ¬ IsValue Interrupt (codes "07") value
-two_of_an_interrupt value is = let long : 2 ≡ length is.number = ap length is.written in omega (arith, is.width, long)
+pub empty : statement_of [] ≡ Some Nothing
+empty = refl
 
--- an event, a fail line and a comment, and what they schedule
-event_in_range : All (λ (event : Event). IsInRange (At event.at event.input)) (record { at = 22; input = Uart 65 } ∷ [])
-event_in_range zero d below = (omega arith, tt)
-event_in_range (suc k) d below = absurd (omega (arith, below))
+-- Values of other widths and bases have no form.
+pub two_digits : statement_of (codes "at 1 adc 0xA3") ≡ None
+two_digits = refl
 
-fail_in_range : All (λ number. IsInRange (FailFlash number)) (12 ∷ [])
-fail_in_range zero d below = (omega arith, omega arith)
-fail_in_range (suc k) d below = absurd (omega (arith, below))
+pub three_digits : statement_of (codes "at 1 pinc 0x00F") ≡ None
+three_digits = refl
 
+pub two_of_an_interrupt : statement_of (codes "at 1 int 07") ≡ None
+two_of_an_interrupt = refl
+
+pub interrupt_8 : statement_of (codes "at 1 int 8") ≡ None
+interrupt_8 = refl
+
+pub no_mark : statement_of (codes "at 1 uart 41") ≡ None
+no_mark = refl
+
+pub capital_mark : statement_of (codes "at 1 uart 0X41") ≡ None
+capital_mark = refl
+
+-- Other words and other spaces haven't either.
+pub other_kind : statement_of (codes "at 1 pine 0x0F") ≡ None
+other_kind = refl
+
+pub capital : statement_of (codes "At 1 int 7") ≡ None
+capital = refl
+
+pub two_spaces : statement_of (codes "at 1  int 7") ≡ None
+two_spaces = refl
+
+pub space_in_front : statement_of (codes " at 1 int 7") ≡ None
+space_in_front = refl
+
+pub space_behind : statement_of (codes "at 1 int 7 ") ≡ None
+space_behind = refl
+
+pub one_space : statement_of (codes " ") ≡ None
+one_space = refl
+
+pub no_value : statement_of (codes "at 1 int") ≡ None
+no_value = refl
+
+pub no_number : statement_of (codes "at  int 7") ≡ None
+no_number = refl
+
+pub hexadecimal_number : statement_of (codes "at 0x1 int 7") ≡ None
+hexadecimal_number = refl
+
+pub eleven_digits : statement_of (codes "at 00000000001 int 7") ≡ None
+eleven_digits = refl
+
+pub other_part : statement_of (codes "fail sram 1") ≡ None
+other_part = refl
+
+pub fail_alone : statement_of (codes "fail flash ") ≡ None
+fail_alone = refl
+
+-- An event, a fail line and a comment, and what they schedule.
 pub three_lines : IsScript (codes "at 22 uart 0x41\nfail flash 0012\n# end\n") (record { events = record { at = 22; input = Uart 65 } ∷ []; failing = 12 ∷ [] })
-three_lines = record {
-  spelled = (
-    At 22 (Uart 65),
-    record { events = []; failing = 12 ∷ [] },
-    serial,
-    (FailFlash 12, nothing, fail, (Nothing, nothing, inr (codes " end", refl), refl, refl), refl),
-    refl,
-  );
-  in_order = record {
-    ordered = λ i j d less below. absurd (omega (arith, less, below));
-    in_range = event_in_range;
-    failing_ordered = λ i j d less below. absurd (omega (arith, less, below));
-    failing_in_range = fail_in_range;
-    few = omega arith;
-  };
-}
+three_lines = record { sound = refl; schedule_is = refl }
+
+pub no_lines : IsScript [] nothing
+no_lines = record { sound = refl; schedule_is = refl }
+
+-- Each fault at its line, and the first of a line's faults; events and fail lines are in order each by themselves.
+pub no_form : script_fault (codes "\nend\n") ≡ Some (2, Form)
+no_form = refl
+
+pub late : script_fault (codes "at 5 int 1\nat 5 int 2\nat 4 int 3\nend") ≡ Some (3, Order)
+late = refl
+
+pub late_failing : script_fault (codes "fail flash 2\nat 1 int 0\nfail flash 1\n") ≡ Some (3, Order)
+late_failing = refl
+
+pub either_order : script_fault (codes "fail flash 2\nat 1 int 0\nfail flash 2\n") ≡ None
+either_order = refl
+
+pub fail_zero : script_fault (codes "fail flash 0\n") ≡ Some (1, Range)
+fail_zero = refl
+
+pub large_number : script_fault (codes "at 4294967295 int 0\nat 4294967296 int 0\n") ≡ Some (2, Range)
+large_number = refl
+
+pub large_value : script_fault (codes "at 1 adc 0x3FF\nat 1 adc 0x400\n") ≡ Some (2, Range)
+large_value = refl
+
+pub order_before_range : script_fault (codes "at 5 int 1\nat 4 adc 0x400\n") ≡ Some (2, Order)
+order_before_range = refl

@@ -1,4 +1,4 @@
-pub mod Kinds
 pub mod Grammar
 pub mod Script
 pub mod Judging
+pub mod GrammarLaw

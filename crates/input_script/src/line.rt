@@ -1,12 +1,11 @@
 //! One line as a statement.
 
-ghost use Rattle.std.specs.Prelude.{◌≡◌, ◌≢◌, ℕ, ◌++◌, List, MatchOption};
-ghost use Rattle.input_script.specs.declared.input.Input.{Input};
-ghost use Rattle.input_script.specs.declared.input.Event.{Event};
-ghost use Rattle.input_script.specs.declared.line.Statement.{Statement};
-ghost use Rattle.input_script.specs.Grammar.{IsNumber, IsValue, IsInput, IsEvent, IsFailLine, IsStatement};
+ghost use Rattle.std.specs.Prelude.{◌≡◌, ◌<◌, ◌≤◌, ◌^◌, ◌∷◌, codes, option_and_then, option_map, bytes_eq, IfSome};
+ghost use Rattle.input_script.specs.declared.input.Input.TheVariants.{Pin};
+ghost use Rattle.input_script.specs.declared.line.Statement.TheVariants.{At, FailFlash};
+ghost use Rattle.input_script.specs.Grammar.{digits_in, number_of, hex_in, input_in, words_of, said_in, statement_of};
 
-use crate::input::{Input, Kind};
+use crate::input::Input;
 use line_reader::{split_once, value_of};
 
 /// What a line says. Its number is as it was written, of up to 10 digits.
@@ -22,40 +21,111 @@ pub(crate) enum Statement {
 
 /// What a line says, where it has one of the forms.
 pub(crate) fn statement_in(line: &[u8]) -> Option<Statement>
-    ensures cases { MatchOption result ((statement : Statement) → ¬ IsStatement line.now statement) (IsStatement line.now) }
+    ensures value { result ≡ statement_of line.now }
 {
     if line.is_empty() || line[0] == b'#' {
         return Some(Statement::Nothing);
     }
-    match event_in(line) {
-        Some(event) => Some(event),
-        None => fail_line_in(line),
+    said_in(line)
+}
+
+/// What the words of a line say, where they are a fail line or an event.
+fn said_in(line: &[u8]) -> Option<Statement>
+    ensures value { result ≡ said_in (words_of line.now) }
+{
+    let (first, rest) = split_once(line, b' ')?;
+    let (second, rest) = split_once(rest, b' ')?;
+    if is_same(first, b"at") {
+        return event_in(second, rest);
+    }
+    if !is_same(first, b"fail") {
+        return None;
+    }
+    if !is_same(second, b"flash") {
+        return None;
+    }
+    fail_of(rest)
+}
+
+/// The event of a number and an input.
+fn event_in(number: &[u8], input: &[u8]) -> Option<Statement>
+    ensures value { result ≡ said_in (codes "at" ∷ number.now ∷ words_of input.now) }
+{
+    let (word, value) = split_once(input, b' ')?;
+    event_of(number, word, value)
+}
+
+/// The event of a number, a kind's word and a value.
+fn event_of(number: &[u8], word: &[u8], value: &[u8]) -> Option<Statement>
+    ensures value { result ≡ option_and_then (λ n. option_map (At n) (input_in word.now value.now)) (number_of number.now) }
+{
+    Some(Statement::At {
+        number: number_in(number)?,
+        input: input_in(word, value)?,
+    })
+}
+
+/// The fail line of a number.
+fn fail_of(number: &[u8]) -> Option<Statement>
+    ensures value { result ≡ option_map FailFlash (number_of number.now) }
+{
+    Some(Statement::FailFlash {
+        number: number_in(number)?,
+    })
+}
+
+/// The input that a kind's word and a value write.
+fn input_in(word: &[u8], value: &[u8]) -> Option<Input>
+    ensures value { result ≡ input_in word.now value.now }
+{
+    if is_same(word, b"pina") {
+        pin_in(0, value)
+    } else if is_same(word, b"pinb") {
+        pin_in(1, value)
+    } else if is_same(word, b"pinc") {
+        pin_in(2, value)
+    } else if is_same(word, b"pind") {
+        pin_in(3, value)
+    } else if is_same(word, b"uart") {
+        Some(Input::Uart(byte_in(value)?))
+    } else if is_same(word, b"adc") {
+        Some(Input::Adc(hex_in(value, 3)?))
+    } else if is_same(word, b"int") {
+        Some(Input::Int(digits_in(value, 8, 1)? as u8))
+    } else {
+        None
     }
 }
 
-/// The event that a line writes, where it writes one.
-fn event_in(line: &[u8]) -> Option<Statement>
-    ensures cases { MatchOption result ((event : Event) → ¬ IsEvent line.now event) (IsStatement line.now) }
+/// The pins of a port that a value writes.
+fn pin_in(port: u8, value: &[u8]) -> Option<Input>
+    ensures value { result ≡ option_map (Pin port) (hex_in 2 value.now) }
 {
-    let text = after(line, b"at ")?;
-    let (digits, input) = split_once(text, b' ')?;
-    let number = number_in(digits)?;
-    let input = input_in(input)?;
-    Some(Statement::At { number, input })
+    Some(Input::Pin(port, byte_in(value)?))
 }
 
-/// The fail line that a line is, where it is one.
-fn fail_line_in(line: &[u8]) -> Option<Statement>
-    ensures cases { MatchOption result ((operation : ℕ) → ¬ IsFailLine line.now operation) (IsStatement line.now) }
+/// The byte that a value writes.
+fn byte_in(value: &[u8]) -> Option<u8>
+    ensures value { result ≡ hex_in 2 value.now }
 {
-    let digits = after(line, b"fail flash ")?;
-    let number = number_in(digits)?;
-    Some(Statement::FailFlash { number })
+    Some(hex_in(value, 2)? as u8)
+}
+
+/// The number that `0x` and so many hexadecimal digits write.
+fn hex_in(text: &[u8], width: usize) -> Option<u16>
+    requires width { width ≤ 3 }
+    ensures value { result ≡ hex_in width text.now }
+    ensures bound { IfSome result (λ n. n < 16 ^ width) }
+{
+    match text {
+        [b'0', b'x', digits @ ..] => digits_in(digits, 16, width),
+        _ => None,
+    }
 }
 
 /// The number that 1 to 10 decimal digits write.
 fn number_in(text: &[u8]) -> Option<u64>
-    ensures cases { MatchOption result ((n : ℕ) → ¬ IsNumber text.now n) (IsNumber text.now) }
+    ensures value { result ≡ number_of text.now }
 {
     if text.is_empty() || text.len() > 10 {
         return None;
@@ -63,31 +133,22 @@ fn number_in(text: &[u8]) -> Option<u64>
     value_of(text, 10)
 }
 
-/// The input that a word and a value write.
-fn input_in(text: &[u8]) -> Option<Input>
-    ensures cases { MatchOption result ((input : Input) → ¬ IsInput text.now input) (IsInput text.now) }
+/// The number that exactly so many digits of a base write.
+fn digits_in(text: &[u8], radix: u32, width: usize) -> Option<u16>
+    requires base { (8 ≤ radix) × (radix ≤ 16) }
+    requires width { width ≤ 3 }
+    ensures value { result ≡ digits_in radix width text.now }
+    ensures bound { IfSome result (λ n. n < radix ^ width) }
 {
-    let (word, rest) = split_once(text, b' ')?;
-    let kind = Kind::named(word)?;
-    let value = value_in(rest, kind)?;
-    Some(kind.input(value))
-}
-
-/// The value of a kind that a text writes.
-fn value_in(text: &[u8], kind: Kind) -> Option<u16>
-    ensures cases { MatchOption result ((value : ℕ) → ¬ IsValue kind text.now value) (IsValue kind text.now) }
-{
-    let digits = after(text, kind.mark())?;
-    if digits.len() != kind.width() {
+    if text.len() != width {
         return None;
     }
-    let value = value_of(digits, kind.radix())?;
-    Some(value as u16)
+    Some(value_of(text, radix)? as u16)
 }
 
-/// The text after these first bytes, where it begins with them.
-fn after<'a>(text: &'a [u8], front: &[u8]) -> Option<&'a [u8]>
-    ensures cases { MatchOption result ((rest : List ℕ) → text.now ≢ front.now ++ rest) (λ rest. text.now ≡ front.now ++ rest.now) }
+/// Whether two words have the same letters.
+fn is_same(word: &[u8], other: &[u8]) -> bool
+    ensures value { result ≡ bytes_eq word.now other.now }
 {
-    text.strip_prefix(front)
+    word == other
 }

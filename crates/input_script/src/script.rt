@@ -1,10 +1,10 @@
 //! A script as a whole.
 
-ghost use Rattle.std.specs.Prelude.{◌≡◌, ℕ, ◌≤◌, ◌⊎◌, ◌↔◌, length, MatchResult, MatchOption, IfOk, IfErr, OnOk, IsTrue};
+ghost use Rattle.std.specs.Prelude.{◌≡◌, ℕ, ◌≤◌, ◌⊎◌, length, nat_le, Some, None, MatchResult, IfOk, IfErr, OnOk};
 ghost use Rattle.input_script.specs.declared.fault.ScriptFault.{ScriptFault};
-ghost use Rattle.input_script.specs.Grammar.{IsStatement};
-ghost use Rattle.input_script.specs.Script.{Schedule, said, joined, size, most_statements, IsSchedule, IsInRange, IsInputInRange, IsLate, IsScript, IsBad, IsFirstFault, NeedsMemory, HasOneJudgement};
-ghost use Rattle.input_script.specs.Judging.{IsNext, IsWrong, Takes, IsRefusal};
+ghost use Rattle.input_script.specs.Grammar.{statement_of};
+ghost use Rattle.input_script.specs.Script.{Schedule, size, most_statements, with_said, is_late, is_in_range, is_input_in_range, fault_of, fault_at, script_fault, IsScript, IsSchedule, NeedsMemory};
+ghost use Rattle.input_script.specs.Judging.{Takes, IsRefusal};
 
 use crate::fault::{ScriptError, ScriptFault};
 use crate::input::{Event, Input};
@@ -76,7 +76,9 @@ impl Script {
 
     /// What a line says after the lines before it.
     fn judged(&self, line: &[u8]) -> Result<Statement, ScriptFault>
-        ensures cases { MatchResult result (λ statement. IsStatement line.now statement × IsNext self.now statement) (λ fault. IsFirstFault fault self.now line.now) }
+        ensures cases { MatchResult result
+            (λ statement. (statement_of line.now ≡ Some statement) × (fault_of self.now (Some statement) ≡ None))
+            (λ fault. fault_at self.now line.now ≡ Some fault) }
     {
         match statement_in(line) {
             None => Err(ScriptFault::Form),
@@ -89,7 +91,7 @@ impl Script {
 
     /// The first thing that is wrong with a statement after those before it.
     fn fault_of(&self, statement: Statement) -> Option<ScriptFault>
-        ensures cases { MatchOption result (IsNext self.now statement) (λ fault. IsWrong fault self.now statement) }
+        ensures value { result ≡ fault_of self.now (Some statement) }
     {
         if self.is_late(statement) {
             return Some(ScriptFault::Order);
@@ -105,7 +107,7 @@ impl Script {
 
     /// Whether an earlier statement of the same sort has a greater number.
     fn is_late(&self, statement: Statement) -> bool
-        ensures cases { IsTrue result ↔ IsLate self.now statement }
+        ensures value { result ≡ is_late self.now statement }
     {
         match statement {
             Statement::Nothing => false,
@@ -122,7 +124,7 @@ impl Script {
 
     /// Whether there is room for one statement more.
     fn has_room(&self, statement: Statement) -> bool
-        ensures cases { IsTrue result ↔ (size (joined self.now (said statement)) ≤ most_statements) }
+        ensures value { result ≡ nat_le (size (with_said self.now (Some statement))) most_statements }
     {
         match statement {
             Statement::Nothing => true,
@@ -133,7 +135,7 @@ impl Script {
 
 /// Whether a statement's number and value are in range.
 fn is_in_range(statement: Statement) -> bool
-    ensures cases { IsTrue result ↔ IsInRange statement }
+    ensures value { result ≡ is_in_range statement }
 {
     match statement {
         Statement::Nothing => true,
@@ -145,7 +147,7 @@ fn is_in_range(statement: Statement) -> bool
 
 /// Whether an input's value is in range.
 fn is_input_in_range(input: Input) -> bool
-    ensures cases { IsTrue result ↔ IsInputInRange input }
+    ensures value { result ≡ is_input_in_range input }
 {
     match input {
         Input::Adc(value) => value <= MOST_ADC,
@@ -161,14 +163,15 @@ fn is_input_in_range(input: Input) -> bool
 pub fn read(alloc: Global, text: &[u8]) -> Result<Script, ScriptError>
     requires { length text.now ≤ 2097152 }
     ensures ok { IfOk result (IsScript text.now) }
-    ensures bad { (line : ℕ) → (fault : ScriptFault) → result ≡ Err (ScriptError.Bad line fault) → IsBad text.now line fault }
+    ensures bad { (line : ℕ) → (fault : ScriptFault) → result ≡ Err (ScriptError.Bad line fault)
+        → script_fault text.now ≡ Some (line, fault) }
     // The text of a script is read as what it schedules, unless memory runs out.
     ensures accepted { (schedule : Schedule) → IsScript text.now schedule → (result ≡ Ok schedule) ⊎ (result ≡ Err ScriptError.NoMemory) }
     // A faulty text is refused with its fault, unless memory runs out.
-    ensures refused { (line : ℕ) → (fault : ScriptFault) → IsBad text.now line fault → (result ≡ Err (ScriptError.Bad line fault)) ⊎ (result ≡ Err ScriptError.NoMemory) }
+    ensures refused { (line : ℕ) → (fault : ScriptFault) → script_fault text.now ≡ Some (line, fault)
+        → (result ≡ Err (ScriptError.Bad line fault)) ⊎ (result ≡ Err ScriptError.NoMemory) }
     // Memory is wanted only for an event or a fail line, of lines without a fault so far.
     ensures memory { result ≡ Err ScriptError.NoMemory → NeedsMemory text.now }
-    ensures one { HasOneJudgement text.now }
 {
     let mut script = Script {
         events: Vec::new(alloc),

@@ -1,5 +1,5 @@
 -- A text cut at the first position of a byte.
-use Rattle.std.proofs.Common.{◌≡◌, ℕ, zero, suc, ◌+◌, ◌<◌, ◌≤◌, Bool, true, false, eqb, List, [], ◌∷◌, ◌++◌, length, get_or, take, drop, arith, ap, ap₂, ◌∙◌, sym, refl, Some, None, inl, inr}
+use Rattle.std.proofs.Common.{◌≡◌, ℕ, zero, suc, ◌+◌, ◌<◌, ◌≤◌, Bool, true, false, eqb, List, [], ◌∷◌, ◌++◌, length, get_or, take, drop, arith, ap, ◌∙◌, sym, Some, None, inl, inr}
 use Rattle.std.specs.Prelude.{◌≢◌, position}
 use Rattle.std.specs.List.{position_or_len}
 use Rattle.std.proofs.lemmas.List.Sums.{fails_before_first}
@@ -46,14 +46,3 @@ pub cut_placed : (byte : ℕ) (text : List ℕ) (i : ℕ) → position (λ b. eq
 cut_placed byte text i here =
     let facts = position-Some (λ b. eqb b byte) text i 0 here in
     sym (take-append-drop i text) ∙ ap (λ rest. take i text ++ rest) (drop_more text i 0 facts.0 ∙ ap (λ b. b ∷ drop (i + 1) text) (like (get_or text i 0) byte facts.1))
-
--- a text has one first position of a byte
-pub one_cut : (byte : ℕ) (xs ys r s : List ℕ) → Lacks byte xs → Lacks byte ys → xs ++ byte ∷ r ≡ ys ++ byte ∷ s → (xs ≡ ys) × (r ≡ s)
-one_cut byte [] [] r s left right same = (refl, cc)
-one_cut byte [] (y ∷ ys) r s left right same = absurd (right.0 cc)
-one_cut byte (x ∷ xs) [] r s left right same = absurd (left.0 cc)
-one_cut byte (x ∷ xs) (y ∷ ys) r s left right same =
-    let head : x ≡ y = cc in
-    let tail : xs ++ byte ∷ r ≡ ys ++ byte ∷ s = cc in
-    let rest = one_cut byte xs ys r s left.1 right.1 tail in
-    (ap₂ (λ z zs. z ∷ zs) head rest.0, rest.1)

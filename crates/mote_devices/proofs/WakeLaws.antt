@@ -1,5 +1,6 @@
 -- What SLEEP waits for: the first event that brings an enabled interrupt.
-use Rattle.std.proofs.Common.{◌+◌, ◌≡◌, ℕ, zero, suc, ◌*◌, ◌^◌, ◌<◌, ◌≤◌, Bool, true, false, not, ◌&&◌, ◌||◌, ◌==◌, cond, List, [], ◌∷◌, length, get_or, drop, arith, refl, sym, ap, ap₂, subst, ◌∙◌}
+use Rattle.std.proofs.Common.{◌+◌, ◌≡◌, ℕ, zero, suc, ◌*◌, ◌^◌, ◌<◌, ◌≤◌, Bool, true, false, not, ◌&&◌, ◌||◌, ◌==◌, leb, cond, List, [], ◌∷◌, length, get_or, drop, arith, refl, sym, ap, ap₂, subst, ◌∙◌}
+use Rattle.std.proofs.lemmas.Bool.{and_parts}
 use Rattle.std.proofs.lemmas.Bool.Decides.{nat_tests}
 use Rattle.std.proofs.lemmas.Nat.{and_or_apart, and_comm}
 use Rattle.std.proofs.lemmas.Nat.Bits.{and_pow, bit_at_and, bit_at_or, bit_at-zero, bit_at-pow_same, bit_at-lt}
@@ -16,7 +17,7 @@ use Rattle.mote_devices.specs.Queue.{first_is_due, first_taken, with_first}
 use Rattle.std.proofs.lemmas.List.Elements.{filter-append}
 use Rattle.std.proofs.lemmas.List.{get_or-drop, length-drop}
 use Rattle.std.specs.Prelude.{All}
-use Rattle.input_script.specs.Script.{IsInputInRange}
+use Rattle.input_script.specs.Script.{is_input_in_range}
 use Rattle.mote_devices.specs.Waking.{Timely}
 use Rattle.std.proofs.Common.{append_assoc, ◌++◌}
 use Rattle.mote_devices.proofs.PollLaws.{coming_kept, not_due, at_poll-with_first, at_poll-none, NoneDue, all_after, due, later}
@@ -251,11 +252,13 @@ unfolding wake
 wake_now s on = ap (λ b. cond b (Some s) (wake_by s.received.coming s)) on
 
 -- numbers of 32 bits
-pub timely_behind : (k : ℕ) (events : List Event) → All (λ (event : Event). (event.at ≤ 4294967295) × IsInputInRange event.input) events → All (λ (event : Event). event.at ≤ 4294967295) (drop k events)
+pub timely_behind : (k : ℕ) (events : List Event) → All (λ (event : Event). (leb event.at 4294967295 && is_input_in_range event.input) ≡ true) events → All (λ (event : Event). event.at ≤ 4294967295) (drop k events)
 timely_behind k events range i d below =
-    let there = (range (k + i) d (omega (arith, length-drop k events))).0 in
+    let event = get_or events (k + i) d in
+    let low : leb event.at 4294967295 ≡ true = (and_parts (leb event.at 4294967295) (is_input_in_range event.input) (range (k + i) d (omega (arith, length-drop k events)))).0 in
+    let there : event.at ≤ 4294967295 = grind (arith, nat_tests) in
     let same = ap (λ (event : Event). event.at) (get_or-drop k events i d) in
-    omega arith
+    omega (arith, there, same)
 
 wake_late_by : (s t : State) (event : Event) (events : List Event) (b : Bool) → event.at ≤ 4294967295 → is_enabled (brought_to event.at s) ≡ b → cond (is_enabled (brought_to event.at s)) (Some (brought_to event.at s)) (wake_by events (brought_to event.at s)) ≡ Some t
     → (wake_by events (brought_to event.at s) ≡ Some t → t.polls ≤ max (max s.polls event.at) 4294967295) → t.polls ≤ max s.polls 4294967295

@@ -1,5 +1,6 @@
--- Lemmas on the lines of a script of several tasks, and on its first fault.
+-- Lemmas on the lines of a script of several tasks, and on its first fault; and scripts with what they schedule.
 pub mod OwnLines
 mod OwnTexts
-mod FirstLines
+mod Naming
 pub mod FirstFaults
+mod WorkedScripts

@@ -8,8 +8,8 @@ use Rattle.std.proofs.lemmas.Bool.Decides.{nat_tests}
 use Rattle.line_reader.specs.Lines.{pieces_of, without_last, line_of, lines_of}
 use Rattle.line_reader.specs.Cutting.{Lacks, IsCut}
 use Rattle.line_reader.proofs.TextLaws.{pieces_of-line, feed_off}
-use Rattle.task_input.specs.Scripts.{own_line, own_lines}
-use Rattle.task_input.specs.Reading.{ended, text_of}
+use Rattle.task_input.specs.Scripts.{own_line}
+use Rattle.task_input.specs.Reading.{ended, own_lines, text_of}
 use Rattle.task_input.proofs.OwnLines.{own_lacks, own_short}
 
 lacks_take : (byte n : ℕ) (text : List ℕ) → Lacks byte text → Lacks byte (take n text)
@@ -133,7 +133,8 @@ pub record IsWritten (task : ℕ) (lines : List (List ℕ)) (own : List ℕ) (re
   pub cut : lines ≡ front ++ rest
   pub own_is : own ≡ text_of (own_lines task front)
 
-pub written_more : (task : ℕ) (lines : List (List ℕ)) (own more line : List ℕ) (rest : List (List ℕ)) → IsWritten task lines own (line ∷ rest) → more ≡ own ++ ended (own_line task line) → IsWritten task lines more rest
+pub written_more : (task : ℕ) (lines : List (List ℕ)) (own more line : List ℕ) (rest : List (List ℕ)) → IsWritten task lines own (line ∷ rest) → more ≡ own ++ ended (own_line task line)
+    → IsWritten task lines more rest
 written_more task lines own more line rest written is = record {
   front = written.front ++ line ∷ [];
   cut = written.cut ∙ sym (append_assoc written.front (line ∷ []) rest);

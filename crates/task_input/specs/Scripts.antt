@@ -1,9 +1,13 @@
 -- The script of several tasks (docs/TASKS.md, "The script"): each event names its task, as in `task 1 at 5 uart 0x41`.
-use Rattle.std.specs.Prelude.{◌≡◌, ℕ, ◌+◌, ◌<◌, ◌≤◌, ◌⊎◌, List, [], ◌∷◌, ◌++◌, codes, length, map, All, Option, Some, None, slice_index_or}
+use Rattle.std.specs.Prelude.{◌≡◌, ℕ, nat_lt, if◌then◌else◌, List, [], ◌++◌, length, codes, map, find, Option, Some, None, option_map, unwrap_or}
+use Rattle.std.specs.List.{range_with_len}
 use Rattle.input_script.specs.declared.fault.ScriptFault.{ScriptFault}
 use Rattle.input_script.specs.declared.fault.ScriptFault.TheVariants.{Form}
-use Rattle.input_script.specs.Grammar.{IsSkipped}
-use Rattle.input_script.specs.Script.{Schedule, Accepts, IsFaulty, nothing}
+use Rattle.input_script.specs.Grammar.{is_skipped}
+use Rattle.input_script.specs.Script as script
+use Rattle.input_script.specs.Script.{Schedule, nothing}
+use Rattle.line_reader.specs.Lines.{lines_of}
+use Rattle.line_reader.specs.Faults.{after_lines, first_fault}
 use Rattle.line_reader.specs.Stripping.{stripped}
 use Rattle.line_writer.specs.Pieces.{task_text}
 
@@ -11,48 +15,32 @@ use Rattle.line_writer.specs.Pieces.{task_text}
 abbrev pub at_word : List ℕ
 at_word = codes "at "
 
--- the line names one of `count` tasks, and goes on as an event does
-abbrev pub IsNamed : ℕ → List ℕ → Type 0
-IsNamed count line = (task : ℕ) × (rest : List ℕ) × (task < count) × (line ≡ task_text task ++ at_word ++ rest)
-
--- A line of a script of `count` tasks: it is skipped, or so named. All else, so a line of an operation that fails, is a
--- fault of form.
-abbrev pub IsTaskLine : ℕ → List ℕ → Type 0
-IsTaskLine count line = IsSkipped line ⊎ IsNamed count line
-
--- a line of a task's own text: what stands behind the task's name; a line that is not the task's is empty
-abbrev pub own_by : Option (List ℕ) → List ℕ
-own_by None = []
-own_by (Some rest) = at_word ++ rest
-
+-- a line of a task's own text: what stands behind the task's name; a line that is not the task's event is empty
 abbrev pub own_line : ℕ → List ℕ → List ℕ
-own_line task line = own_by (stripped (task_text task ++ at_word) line)
+own_line task line = unwrap_or (option_map (λ rest. at_word ++ rest) (stripped (task_text task ++ at_word) line)) []
 
--- the lines of a task's own text, as many as the whole text has
-abbrev pub own_lines : ℕ → List (List ℕ) → List (List ℕ)
-own_lines task lines = map (own_line task) lines
+-- the one of the first `count` tasks whose event a line is
+abbrev pub task_of : (count : ℕ) → List ℕ → Option ℕ
+task_of count line = find (λ task. nat_lt 0 (length (own_line task line))) (range_with_len 0 count)
 
--- what the lines schedule: each has a form, and each task's own text is accepted as a script
-pub record Schedules (count : ℕ) (lines : List (List ℕ)) (schedules : List Schedule) : Type 0 where
-  pub forms : All (IsTaskLine count) lines
-  pub each_task : length schedules ≡ count
-  pub read : (task : ℕ) → task < count → Accepts (own_lines task lines) (slice_index_or schedules task nothing)
+-- what is scheduled for each task, behind one line more
+abbrev pub after : (ℕ → Schedule) → List ℕ → ℕ → Schedule
+after before line task = script.after (before task) (own_line task line)
 
--- the line with this number, from 1, has no form
-pub record IsFormless (count : ℕ) (lines : List (List ℕ)) (number : ℕ) : Type 0 where
-  pub front : List (List ℕ)
-  pub line : List ℕ
-  pub rest : List (List ℕ)
-  pub cut : lines ≡ front ++ line ∷ rest
-  pub number_is : number ≡ length front + 1
-  pub none : ¬ IsTaskLine count line
+-- The first fault of a line, behind what is scheduled before it: of a task's event that of its own line. Any other line is
+-- skipped or has no form, so one of an operation that fails.
+abbrev pub fault_of : (ℕ → Schedule) → List ℕ → Option ℕ → Option ScriptFault
+fault_of before line None = if is_skipped line then None else Some Form
+fault_of before line (Some task) = script.fault_at (before task) (own_line task line)
 
--- a faulty line: it has no form, or is the first faulty line of a task's own text
-pub data IsFault (count : ℕ) (lines : List (List ℕ)) (number : ℕ) (fault : ScriptFault) : Type 0 where
-  Formless : IsFormless count lines number → fault ≡ Form → IsFault count lines number fault
-  InText : (task : ℕ) → task < count → IsFaulty (own_lines task lines) number fault → IsFault count lines number fault
+abbrev pub fault_at : (count : ℕ) → (ℕ → Schedule) → List ℕ → Option ScriptFault
+fault_at count before line = fault_of before line (task_of count line)
 
--- the first of all
-pub record IsFirst (count : ℕ) (lines : List (List ℕ)) (number : ℕ) (fault : ScriptFault) : Type 0 where
-  pub is : IsFault count lines number fault
-  pub first : (other : ℕ) (its : ScriptFault) → IsFault count lines other its → number ≤ other
+-- the first line that has a fault, counted from 1, and the first of its faults
+abbrev pub scripts_fault : (count : ℕ) → List ℕ → Option (ℕ × ScriptFault)
+scripts_fault count text = first_fault (fault_at count) after 1 (λ task. nothing) (lines_of text)
+
+-- an accepted text, and what it schedules for each task
+pub record Schedules (count : ℕ) (text : List ℕ) (schedules : List Schedule) : Type 0 where
+  pub sound : scripts_fault count text ≡ None
+  pub schedules_are : schedules ≡ map (after_lines after (λ task. nothing) (lines_of text)) (range_with_len 0 count)

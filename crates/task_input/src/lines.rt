@@ -1,10 +1,12 @@
 //! The lines of a script of several tasks, and the text that each task has of it.
 
-ghost use Rattle.std.specs.Prelude.{◌≡◌, ◌≢◌, ◌<◌, ◌≤◌, ◌↔◌, ◌++◌, ℕ, List, length, All, IsTrue, IfOk, OnOk, MatchOption};
+ghost use Rattle.std.specs.Prelude.{◌≡◌, ◌≢◌, ◌<◌, ◌≤◌, ◌||◌, ◌++◌, ℕ, List, length, is_some, option_map, IfOk, OnOk, MatchOption};
 ghost use Rattle.line_reader.specs.Lines.{lines_of};
 ghost use Rattle.line_writer.specs.Pieces.{task_text};
-ghost use Rattle.task_input.specs.Scripts.{at_word, IsNamed, IsTaskLine, IsFormless, own_line, own_lines};
-ghost use Rattle.task_input.specs.Reading.{ended};
+ghost use Rattle.input_script.specs.declared.fault.ScriptFault.TheVariants.{Form};
+ghost use Rattle.input_script.specs.Grammar.{is_skipped};
+ghost use Rattle.task_input.specs.Scripts.{at_word, own_line, task_of};
+ghost use Rattle.task_input.specs.Reading.{ended, own_lines, first_formless as first_formless_of};
 
 use line_reader::first_line;
 use no_memory::NoMemory;
@@ -17,8 +19,7 @@ const NAME_LENGTH: usize = 7;
 pub(crate) fn first_formless(text: &[u8], count: u8) -> Option<u32>
     requires text { length text.now ≤ 2097152 }
     requires count { count ≤ 4 }
-    ensures cases { MatchOption result (All (IsTaskLine count) (lines_of text.now)) (λ number. IsFormless count (lines_of text.now) number) }
-    ensures first { (other : ℕ) → IsFormless count (lines_of text.now) other → MatchOption result ⊥ (λ number. number ≤ other) }
+    ensures value { option_map (λ number. (number, Form)) result ≡ first_formless_of count (lines_of text.now) }
 {
     let mut rest = text;
     let mut number = 0;
@@ -36,7 +37,7 @@ pub(crate) fn first_formless(text: &[u8], count: u8) -> Option<u32>
 /// Whether a line is skipped, or an event of one of the tasks.
 fn has_form(line: &[u8], count: u8) -> bool
     requires { count ≤ 4 }
-    ensures cases { IsTrue result ↔ IsTaskLine count line.now }
+    ensures value { result ≡ (is_skipped line.now || is_some (task_of count line.now)) }
 {
     line.is_empty() || line[0] == b'#' || is_named(line, count)
 }
@@ -44,7 +45,7 @@ fn has_form(line: &[u8], count: u8) -> bool
 /// Whether a line is an event of one of the tasks.
 fn is_named(line: &[u8], count: u8) -> bool
     requires { count ≤ 4 }
-    ensures cases { IsTrue result ↔ IsNamed count line.now }
+    ensures value { result ≡ is_some (task_of count line.now) }
 {
     'tasks: for task in 0..count {
         if behind_name(line, task).is_some() {

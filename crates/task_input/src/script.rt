@@ -1,12 +1,12 @@
 //! The scripts of all tasks.
 
-ghost use Rattle.std.specs.Prelude.{◌≡◌, ◌≤◌, ◌<◌, ◌⊎◌, ℕ, [], List, All, length, IfOk, MatchResult, Err};
+ghost use Rattle.std.specs.Prelude.{◌≡◌, ◌≤◌, ◌<◌, ◌⊎◌, ℕ, [], List, All, length, IfOk, MatchResult, Some, Err};
 ghost use Rattle.line_reader.specs.Lines.{lines_of};
 ghost use Rattle.input_script.specs.declared.fault.ScriptFault.{ScriptFault};
 ghost use Rattle.input_script.specs.declared.fault.ScriptError.{ScriptError};
-ghost use Rattle.input_script.specs.Script.{Schedule, Accepts, IsFaulty};
-ghost use Rattle.task_input.specs.Scripts.{own_lines, Schedules, IsFirst};
-ghost use Rattle.task_input.specs.Reading.{earlier, IsFar};
+ghost use Rattle.input_script.specs.Script.{Schedule};
+ghost use Rattle.task_input.specs.Scripts.{Schedules, scripts_fault};
+ghost use Rattle.task_input.specs.Reading.{earlier, own_fault, IsOwn, IsFar};
 
 use crate::lines::{first_formless, own_text};
 use input_script::{Script, ScriptError, ScriptFault, read};
@@ -29,13 +29,14 @@ pub(crate) struct BadLine {
 pub fn read_scripts(alloc: Global, text: &[u8], count: u8) -> Result<Vec<Script>, ScriptError>
     requires text { length text.now ≤ 2097152 }
     requires count { count ≤ 4 }
-    ensures ok { IfOk result (λ scripts. Schedules count (lines_of text.now) scripts.items) }
-    ensures bad { (line : ℕ) → (fault : ScriptFault) → result ≡ Err (ScriptError.Bad line fault) → IsFirst count (lines_of text.now) line fault }
+    ensures ok { IfOk result (λ scripts. Schedules count text.now scripts.items) }
+    ensures bad { (line : ℕ) → (fault : ScriptFault) → result ≡ Err (ScriptError.Bad line fault)
+        → scripts_fault count text.now ≡ Some (line, fault) }
     // A text is read as what it schedules, unless memory runs out.
-    ensures accepted { (schedules : List Schedule) → Schedules count (lines_of text.now) schedules
+    ensures accepted { (schedules : List Schedule) → Schedules count text.now schedules
         → MatchResult result (λ scripts. scripts.items ≡ schedules) (λ error. error ≡ ScriptError.NoMemory) }
     // A faulty text is refused with its first fault, unless memory runs out.
-    ensures refused { (line : ℕ) → (fault : ScriptFault) → IsFirst count (lines_of text.now) line fault
+    ensures refused { (line : ℕ) → (fault : ScriptFault) → scripts_fault count text.now ≡ Some (line, fault)
         → (result ≡ Err (ScriptError.Bad line fault)) ⊎ (result ≡ Err ScriptError.NoMemory) }
     // No operation on flash is to fail.
     ensures unfailing { IfOk result (λ scripts. All (λ script. script.failing ≡ []) scripts.items) }
@@ -61,7 +62,7 @@ pub fn read_scripts(alloc: Global, text: &[u8], count: u8) -> Result<Vec<Script>
 fn formless(text: &[u8], count: u8) -> Option<BadLine>
     requires text { length text.now ≤ 2097152 }
     requires count { count ≤ 4 }
-    ensures far { IsFar count (lines_of text.now) 0 result [] }
+    ensures far { IsFar count text.now 0 result [] }
 {
     match first_formless(text, count) {
         Some(line) => Some(BadLine {
@@ -76,8 +77,9 @@ fn formless(text: &[u8], count: u8) -> Option<BadLine>
 fn read_task(alloc: Global, text: &[u8], task: u8) -> Result<Script, ScriptError>
     requires text { length text.now ≤ 2097152 }
     requires task { task < 4 }
-    ensures ok { IfOk result (Accepts (own_lines task (lines_of text.now))) }
-    ensures bad { (line : ℕ) → (fault : ScriptFault) → result ≡ Err (ScriptError.Bad line fault) → IsFaulty (own_lines task (lines_of text.now)) line fault }
+    ensures ok { IfOk result (IsOwn task (lines_of text.now)) }
+    ensures bad { (line : ℕ) → (fault : ScriptFault) → result ≡ Err (ScriptError.Bad line fault)
+        → own_fault task (lines_of text.now) ≡ Some (line, fault) }
 {
     match own_text(alloc, text, task) {
         Ok(own) => read(alloc, own.as_slice()),

@@ -16,7 +16,7 @@ use Rattle.cli_words.specs.Status.{number_of}
 use Rattle.printed_text.specs.Verdicts.{verdict_text}
 use Rattle.cli_requests.specs.CheckCommand.{verdict_status}
 use Rattle.theorem_reader.proofs.Checks.{Answers, Wanting, Verdicts, check_answers}
-use Rattle.cli_requests.proofs.ImageLength.{few_words}
+use Rattle.hex_image.proofs.LawLemmas.{few_words}
 use Rattle.theorem_reader.specs.Pools.{pool_from, pool_size, number_where}
 use Rattle.theorem_reader.specs.Checks.{AsksCheck, IsChecked, NoMemory, Faithful, Misshapen, Unlinked, used_in}
 use Rattle.theorem_reader.specs.Telling.{Sink, IsTold}

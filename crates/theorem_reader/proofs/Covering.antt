@@ -1,8 +1,8 @@
 -- The clauses tell of each call, unless memory was wanted.
-use Rattle.std.proofs.Common.{◌≡◌, ◌⊎◌, ℕ, ◌≤◌, List, length, refl, ap, subst, arith, inl, inr}
+use Rattle.std.proofs.Common.{◌≡◌, ◌⊎◌, ℕ, ◌≤◌, List, length, Some, refl, ap, subst, arith, inl, inr}
 use Rattle.tk_io.specs.Memory.{SinkState}
 use Rattle.byte_streams.specs.Streams.{Input}
-use Rattle.hex_image.specs.HexText.{HexText, HexBad}
+use Rattle.hex_image.specs.HexText.{HexText, hex_fault}
 use Rattle.hex_image.specs.declared.fault.HexFault.{HexFault}
 use Rattle.printed_text.specs.FaultyLines.{hex_part, hex_word}
 use Rattle.cli_words.specs.declared.command.Command.{Command}
@@ -38,7 +38,8 @@ use Rattle.theorem_reader.proofs.Doing.{Call, with_room, so_is, so_then, told_ho
 -- a HEX text in front of what is asked for, or its first faulty line
 hex_then : (words : List (List ℕ)) (text : List ℕ) (Then : List ℕ × ℕ → Job → Type 0) (job : Job) → ReadsHex words → length text ≤ 2097152
     → ((hex : List ℕ × ℕ) → HexText text hex.0 hex.1 → Then hex job → calls.IsAsked words text)
-    → IsJudged (List ℕ × ℕ) hex_part (λ hex. HexText text hex.0 hex.1) (λ line word. (fault : HexFault) × HexBad text line fault × (word ≡ hex_word fault)) Then job → calls.IsAsked words text
+    → IsJudged (List ℕ × ℕ) hex_part (λ hex. HexText text hex.0 hex.1) (λ line word. (fault : HexFault) × (hex_fault text ≡ Some (line, fault)) × (word ≡ hex_word fault)) Then job
+    → calls.IsAsked words text
 hex_then words text Then job reads short then (Bad number word bad is) = calls.Refuse _ (BadHex reads short number bad.0 bad.1 refl)
 hex_then words text Then job reads short then (Good hex is asks) = then hex is asks
 

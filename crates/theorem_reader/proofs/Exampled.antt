@@ -1,15 +1,11 @@
 -- The words and the text of the example ask for it.
-use Rattle.std.proofs.Common.{◌≡◌, ℕ, zero, suc, List, [], ◌∷◌, codes, refl, arith, inl, inr}
-use Rattle.std.specs.Prelude.{All, ◌≤◌, Some, slice_index_or, slice_set}
-use Rattle.std.specs.List.{enumerate_from}
+use Rattle.std.proofs.Common.{◌≡◌, ℕ, List, [], ◌∷◌, codes, refl, arith, inl, inr}
+use Rattle.std.specs.Prelude.{◌≤◌, Some, slice_set}
 use Rattle.hex.proofs.OnLiterals.{hex_on_literals}
-use Rattle.hex_image.specs.Lines.{bytes_at}
-use Rattle.hex_image.specs.HexText.{HexText, IsBeforeEnd}
-use Rattle.hex_image.proofs.GrammarLemmas.{AreSound, sound_row}
-use Rattle.input_script.proofs.WorkedLines.{three_lines}
+use Rattle.hex_image.specs.HexText.{HexText}
 use Rattle.cli_words.proofs.WorkedWords.{chosen, rest, said, values_are, with_options}
 use Rattle.base_laws.specs.Lists.{many}
-use Rattle.input_script.specs.Script.{Accepts, nothing}
+use Rattle.input_script.specs.Script.{nothing}
 use Rattle.pool_check.proofs.CheckedLaws.{outside}
 use Rattle.task_input.specs.Images.{IsMisplaced, IsApart}
 use Rattle.task_input.specs.Scripts.{Schedules}
@@ -23,26 +19,15 @@ use Rattle.theorem_reader.specs.Examples.{example_of_tasks, words_of_tasks, eras
 use Rattle.theorem_reader.specs.Restarts.{AsksRestart}
 use Rattle.theorem_reader.specs.Tasks.{AsksTasks, tasks_options_of}
 use Rattle.theorem_reader.specs.Runs.{Asks, AsksGenerate, HasHex, example, options_of}
-use Rattle.theorem_reader.proofs.Plainly.{no_script}
 
 -- the text
 abbrev text : List ℕ
 text = codes ":060000000FE00BBBFFCF77\n:00000001FF\nat 22 uart 0x41\nfail flash 0012\n# end\n"
 
-abbrev bytes : List ℕ
-bytes = 0x0F ∷ 0xE0 ∷ 0x0B ∷ 0xBB ∷ 0xFF ∷ 0xCF ∷ []
-
-pub sound : AreSound (enumerate_from 0 bytes)
-sound = sound_row 0 bytes (omega arith)
-
-pub before_end : All IsBeforeEnd (bytes_at 0 bytes ∷ [])
-before_end zero d below = omega arith
-before_end (suc k) d below = absurd (omega (arith, below))
-
 -- its first line has these bytes, and its second is the end record
 hex : HexText text example.image 36
 unfolding hex_on_literals
-hex = record { before = 1; ends = refl; lines = before_end; different = sound.different; small = sound.small; image = refl; cut = refl }
+hex = record { sound = refl; image = refl; cut = refl }
 
 abbrev in_front : HasHex text example.image
 in_front = record { position = 36; hex = hex; short = omega arith }
@@ -61,13 +46,13 @@ pub record AreWords (command : List ℕ) (words : List (List ℕ)) (bytes : List
   pub bytes_are : bytes ≡ text
 
 pub asks_run : (words : List (List ℕ)) (bytes : List ℕ) → AreWords (codes "run") words bytes → Asks words bytes example
-asks_run words bytes are = rw (are.words_are, are.bytes_are) (record { command = with_options; front = in_front; script = three_lines })
+asks_run words bytes are = rw (are.words_are, are.bytes_are) (record { command = with_options; front = in_front; script = record { sound = refl; schedule_is = refl } })
 
 pub asks_dump : (words : List (List ℕ)) (bytes : List ℕ) → AreWords (codes "dump") words bytes → AsksDump words bytes example
-asks_dump words bytes are = rw (are.words_are, are.bytes_are) (record { command = dumps; front = in_front; script = three_lines })
+asks_dump words bytes are = rw (are.words_are, are.bytes_are) (record { command = dumps; front = in_front; script = record { sound = refl; schedule_is = refl } })
 
 pub asks_restart : (words : List (List ℕ)) (bytes : List ℕ) → AreWords (codes "restart") words bytes → AsksRestart words bytes example
-asks_restart words bytes are = rw (are.words_are, are.bytes_are) (record { command = restarts; front = in_front; script = three_lines })
+asks_restart words bytes are = rw (are.words_are, are.bytes_are) (record { command = restarts; front = in_front; script = record { sound = refl; schedule_is = refl } })
 
 pub are_words : (command a b c d e f bytes : List ℕ) → a ≡ command → b ≡ codes "--steps" → c ≡ codes "100" → d ≡ codes "--quantum=7" → e ≡ codes "--swap" → f ≡ codes "0" → bytes ≡ text
     → AreWords command (a ∷ b ∷ c ∷ d ∷ e ∷ f ∷ []) bytes
@@ -80,7 +65,7 @@ hex_text = codes ":060000000FE00BBBFFCF77\n:00000001FF\n"
 
 hex_alone : HexText hex_text example.image 36
 unfolding hex_on_literals
-hex_alone = record { before = 1; ends = refl; lines = before_end; different = sound.different; small = sound.small; image = refl; cut = refl }
+hex_alone = record { sound = refl; image = refl; cut = refl }
 
 -- the first of some
 abbrev head : {A : Type 0} → (list : List A) → (list ≡ [] → ⊥) → A
@@ -115,7 +100,7 @@ tasks_command = (
     slice_set options.nothing 4 (Some 1),
     (
       record { parameter = (head tasks_rows (λ e. cc)).parameter; value = 1 } ∷ [],
-      ([], record { digits = codes "1"; written = inl refl; number = record { digits = (omega arith, tt); some = omega arith; most = omega arith; value = refl }; has = refl }, refl, (refl, refl)),
+      ([], record { digits = codes "1"; written = inl refl; number = refl; has = refl }, refl, (refl, refl)),
     ),
     tasks_values,
   ),
@@ -129,12 +114,8 @@ far a (inr (inr other)) = omega (arith, other)
 placed : (a : ℕ) → ¬ IsMisplaced 1 example.image a
 placed a is = is.1 (outside example.image a (far a is.0))
 
-no_events : (task : ℕ) → Accepts [] (slice_index_or (nothing ∷ []) task nothing)
-no_events zero = no_script
-no_events (suc k) = no_script
-
 pub schedules : Schedules 1 [] (nothing ∷ [])
-schedules = record { forms = λ k d below. absurd (omega (arith, below)); each_task = refl; read = λ task below. no_events task }
+schedules = record { sound = refl; schedules_are = refl }
 
 pub asks_tasks : AsksTasks words_of_tasks hex_text example_of_tasks
 asks_tasks = record { command = tasks_command; front = record { position = 36; hex = hex_alone; short = omega arith }; scripts = schedules; placed = placed }
@@ -159,7 +140,7 @@ generate_command = (
     slice_set options.nothing 0 (Some 7),
     (
       record { parameter = (head seed_rows (λ e. cc)).parameter; value = 7 } ∷ [],
-      ([], record { digits = codes "7"; written = refl; number = record { digits = (omega arith, tt); some = omega arith; most = omega arith; value = refl }; has = refl }, refl, (refl, refl)),
+      ([], record { digits = codes "7"; written = refl; number = refl; has = refl }, refl, (refl, refl)),
     ),
     (7, [], refl, record { is = refl; least = omega arith; most = omega arith }, refl),
   ),

@@ -1,16 +1,15 @@
 -- The word `run` alone asks for a plain run of the image that a text was written for.
-use Rattle.std.proofs.Common.{◌≡◌, ℕ, ◌+◌, ◌*◌, ◌%◌, ◌/◌, ◌≤◌, List, [], ◌∷◌, length, length-append, map, flat_map, take, drop, codes, refl, sym, ap, subst, arith}
+use Rattle.std.proofs.Common.{◌≡◌, ℕ, ◌*◌, ◌%◌, ◌/◌, ◌≤◌, List, [], ◌∷◌, length, length-append, map, flat_map, take, drop, codes, refl, sym, ap, subst, arith}
 use Rattle.std.specs.List.{range_with_len}
 use Rattle.std.proofs.lemmas.List.{length_push, length-take}
-use Rattle.std.proofs.lemmas.List.FromFn.{length-range_with_len, length-map-range_with_len}
+use Rattle.std.proofs.lemmas.List.FromFn.{length-range_with_len}
 use Rattle.hex.specs.Hex.{upper_digits}
 use Rattle.hex.proofs.HexLemmas.{length-encode_with}
 use Rattle.base_laws.proofs.ManyLaws.{length-two_each}
 use Rattle.line_reader.specs.Written.{fed}
-use Rattle.hex_image.specs.Places.{cells_of, extent, word_of_cells}
-use Rattle.hex_image.proofs.GrammarLemmas.{extent-small}
+use Rattle.hex_image.proofs.LawLemmas.{few_words}
 use Rattle.hex_image.specs.Written.{bytes_of_words, checksum_of, fields_of, record_bytes, record_line, record_content, data_line, record_count, written}
-use Rattle.hex_image.specs.HexText.{HexText, meanings_of}
+use Rattle.hex_image.specs.HexText.{HexText}
 use Rattle.input_script.specs.Script.{IsScript, nothing as no_events}
 use Rattle.cli_words.specs.declared.command.Command.TheVariants.{Run as RunCommand}
 use Rattle.cli_words.specs.Commands.{IsCommand}
@@ -20,17 +19,7 @@ use Rattle.no_memory.specs.declared.NoMemory.{NoMemory}
 use Rattle.theorem_reader.specs.Runs.{Asks, options_of, plainly}
 
 pub no_script : IsScript [] no_events
-no_script = record {
-  spelled = refl;
-  in_order = record {
-    ordered = λ i j d less below. absurd (omega (arith, below));
-    in_range = λ k d below. absurd (omega (arith, below));
-    failing_ordered =
-        λ i j d less below. absurd (omega (arith, below));
-    failing_in_range = λ k d below. absurd (omega (arith, below));
-    few = omega arith;
-  };
-}
+no_script = record { sound = refl; schedule_is = refl }
 
 nothing_behind : (text : List ℕ) → drop (length text) text ≡ []
 nothing_behind [] = refl
@@ -83,11 +72,6 @@ lines_short words (number ∷ numbers) =
 last_line : length (fed (record_line 1 0 [])) ≤ 12
 last_line = omega (arith, length_push (record_line 1 0 []) 10, length-encode_with upper_digits (record_bytes 1 0 []))
 
-few_words : (image text : List ℕ) → HexText text image (length text) → length image ≤ 24576
-few_words image text hex =
-    let cells = cells_of (take hex.before (meanings_of text)) in
-    omega (arith, ap length hex.image, length-map-range_with_len (word_of_cells cells) 0 ((extent cells + 1) / 2), extent-small cells hex.small)
-
 pub text_short : (image text : List ℕ) → HexText text image (length text) → text ≡ written image → length text ≤ 2097152
 text_short image text hex same =
     let front = flat_map fed (map (data_line image) (range_with_len 0 (record_count image))) in
@@ -98,5 +82,5 @@ text_short image text hex same =
       last_line,
       lines_short image (range_with_len 0 (record_count image)),
       length-range_with_len 0 (record_count image),
-      few_words image text hex,
+      few_words text image (length text) hex,
     )

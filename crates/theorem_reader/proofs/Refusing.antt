@@ -1,8 +1,8 @@
 -- What is told of words and texts that are refused, and what `asm` writes.
-use Rattle.std.proofs.Common.{◌≡◌, ℕ, ◌<◌, ◌≤◌, List, ◌++◌, codes, length, drop, None, refl, sym, ◌∙◌, subst, inl, inr}
-use Rattle.hex_image.specs.HexText.{HexText, HexBad}
+use Rattle.std.proofs.Common.{◌≡◌, ℕ, ◌<◌, ◌≤◌, List, ◌++◌, codes, length, drop, Some, None, refl, sym, ◌∙◌, subst, inl, inr}
+use Rattle.hex_image.specs.HexText.{HexText, hex_fault}
 use Rattle.hex_image.specs.Written.{written}
-use Rattle.input_script.specs.Script.{IsBad}
+use Rattle.input_script.specs.Script.{script_fault}
 use Rattle.hex_image.specs.declared.fault.HexFault.{HexFault}
 use Rattle.input_script.specs.declared.fault.ScriptFault.{ScriptFault}
 use Rattle.flash_dump.specs.declared.dump_line.DumpFault.{DumpFault}
@@ -37,7 +37,7 @@ record Warrants (words : List (List ℕ)) (source source' : Input) (own : ℕ) (
   status_is : number_of status ≡ own
   line_is : items ≡ line
 
-bad_hex : (words : List (List ℕ)) (source source' : Input) (text : List ℕ) (number : ℕ) (fault : HexFault) → Tells source source' text → length text ≤ 2097152 → HexBad text number fault
+bad_hex : (words : List (List ℕ)) (source source' : Input) (text : List ℕ) (number : ℕ) (fault : HexFault) → Tells source source' text → length text ≤ 2097152 → hex_fault text ≡ Some (number, fault)
     → ReadsHex words
     → IsWarranted words source source' (jobs.Print statuses.BadInput (record { items = bad_line_text (codes "bad hex line ") number (hex_word fault) }))
 bad_hex words source source' text number fault tells short bad (Scripted (Runs options is)) = inl (Run options, is, (text, tells, inr (short, Bad number (hex_word fault) (fault, bad, refl) refl)))
@@ -48,7 +48,7 @@ bad_hex words source source' text number fault tells short bad (Several options 
 bad_hex words source source' text number fault tells short bad (Checks is) = inl (Check, is, (text, tells, inr (short, Bad number (hex_word fault) (fault, bad, refl) refl)))
 
 bad_script : (words : List (List ℕ)) (source source' : Input) (text image : List ℕ) (position number : ℕ) (fault : ScriptFault) → Tells source source' text → length text ≤ 2097152
-    → HexText text image position → IsBad (drop position text) number fault → ReadsScript words
+    → HexText text image position → script_fault (drop position text) ≡ Some (number, fault) → ReadsScript words
     → IsWarranted words source source' (jobs.Print statuses.BadInput (record { items = bad_line_text (codes "bad script line ") number (script_word fault) }))
 bad_script words source source' text image position number fault tells short hex bad (Runs options is) =
     inl (Run options, is, (text, tells, inr (short, Good (image, position) hex (Bad number (script_word fault) (fault, bad, refl) refl))))

@@ -41,7 +41,7 @@ use Rattle.tkernel_cli.specs.Runs.{Runs, RunsToTheEnd, RunsUntilCut}
 use Rattle.tkernel_cli.specs.DumpRuns.{silent}
 use Rattle.tkernel_cli.specs.RestartRuns.{HasRestarted, RunsOver, lost_flash, refused_in, second_start}
 use Rattle.printed_text.specs.RestartLines.{restart_text}
-use Rattle.cli_requests.proofs.ImageLength.{few_words}
+use Rattle.hex_image.proofs.LawLemmas.{few_words}
 use Rattle.tk_restart.proofs.TornWords.{number_at, torn_word, length_torn}
 use Rattle.theorem_reader.specs.Pools.{number_where, HasAddress}
 use Rattle.theorem_reader.specs.Checks.{used_in}

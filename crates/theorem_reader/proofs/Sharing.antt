@@ -16,6 +16,7 @@ use Rattle.parked_tasks.specs.declared.task.TaskEnd.{TaskEnd}
 use Rattle.task_turns.specs.Reset.{turns_at_reset, players_at_reset}
 use Rattle.task_turns.specs.Quarters.{quarter_part}
 use Rattle.task_input.specs.Images.{task_words}
+use Rattle.task_input.proofs.FirstFaults.{each_task}
 use Rattle.tk_tasks.specs.Plays.{shown_text, told_text, told_of}
 use Rattle.tk_tasks.specs.States.{Tasks, player_of, turns_of}
 use Rattle.parked_tasks.specs.Ends.{flat_end, flat_end_of}
@@ -323,4 +324,4 @@ tasks_told words exit status faults taken call text tells asked asks =
       asks.command,
       (text, tells, inr (asks.front.short, Good (asked.image, asks.front.position) asks.front.hex (Good asked.scripts asks.scripts (Placed asks.placed refl)))),
     ))
-    (λ sink told none alone. NoMemory told none alone) (λ done. are_run asked words exit status faults taken call done.tasks asks.scripts.each_task some done.none done.kept done.runs)
+    (λ sink told none alone. NoMemory told none alone) (λ done. are_run asked words exit status faults taken call done.tasks (each_task asked.count _ asked.scripts asks.scripts) some done.none done.kept done.runs)

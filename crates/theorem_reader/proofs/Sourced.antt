@@ -11,6 +11,8 @@ use Rattle.avr_asm.specs.SourceLines.{statement_of}
 use Rattle.avr_asm.specs.Statements.{meaning_of}
 use Rattle.avr_asm.specs.AsmText.{AsmText, fault_of}
 use Rattle.avr_asm.specs.declared.fault.AsmFault.TheVariants as asm_faults
+use Rattle.hex.proofs.OnLiterals.{hex_on_literals}
+use Rattle.hex_image.specs.HexText.{hex_fault}
 use Rattle.hex_image.specs.declared.fault.HexFault.TheVariants as hex_faults
 use Rattle.cli_words.specs.declared.command.Command.TheVariants.{Asm, Help}
 use Rattle.cli_words.specs.Commands.{IsCommand}
@@ -62,5 +64,9 @@ first_fault = refl
 pub bad_source : IsRefused (codes "asm" ∷ []) hex_text (bad_line (codes "asm") 1 (codes "form"))
 bad_source = BadSource asm_word (omega arith) 1 asm_faults.Form first_fault refl
 
+first_hex_fault : hex_fault source ≡ Some (1, hex_faults.Start)
+unfolding hex_on_literals
+first_hex_fault = refl
+
 pub bad_hex : IsRefused (codes "run" ∷ []) source (bad_line (codes "hex") 1 (codes "start"))
-bad_hex = BadHex (Scripted (Runs _ without_options)) (omega arith) 1 hex_faults.Start (record { before = 0; number = refl; passed = λ n less. absurd (omega (arith, less)); at = refl }) refl
+bad_hex = BadHex (Scripted (Runs _ without_options)) (omega arith) 1 hex_faults.Start first_hex_fault refl

@@ -1,13 +1,12 @@
 -- What is told of words and texts that are refused, and what `asm` writes.
 use Rattle.std.specs.Prelude.{◌≡◌, ◌⊎◌, ℕ, ◌<◌, ◌≤◌, List, ◌++◌, codes, decimal, drop, length, Option, Some, None}
-use Rattle.line_reader.specs.Lines.{lines_of}
-use Rattle.hex_image.specs.HexText.{HexBad}
+use Rattle.hex_image.specs.HexText.{hex_fault}
 use Rattle.hex_image.specs.Written.{written}
 use Rattle.hex_image.specs.declared.fault.HexFault.{HexFault}
-use Rattle.input_script.specs.Script.{Schedule, IsBad}
+use Rattle.input_script.specs.Script.{Schedule, script_fault}
 use Rattle.input_script.specs.declared.fault.ScriptFault.{ScriptFault}
 use Rattle.task_input.specs.Images.{IsFirstMisplaced}
-use Rattle.task_input.specs.Scripts.{IsFirst, Schedules}
+use Rattle.task_input.specs.Scripts.{Schedules, scripts_fault}
 use Rattle.flash_dump.specs.Dumps.{dump_fault}
 use Rattle.flash_dump.specs.declared.dump_line.DumpFault.{DumpFault}
 use Rattle.avr_asm.specs.AsmText.{AsmText, fault_of}
@@ -57,13 +56,13 @@ pub data IsUsage (words : List (List ℕ)) (own : ℕ) : Type 0 where
 -- may have one.
 pub data IsRefused (words : List (List ℕ)) (text line : List ℕ) : Type 0 where
   TooLong : ReadsText words → 2097152 < length text → line ≡ codes "input too long\n" → IsRefused words text line
-  BadHex : ReadsHex words → length text ≤ 2097152 → (number : ℕ) → (fault : HexFault) → HexBad text number fault → line ≡ bad_line (codes "hex") number (hex_word fault) → IsRefused words text line
-  BadScript : ReadsScript words → (image : List ℕ) → (front : HasHex text image) → (number : ℕ) → (fault : ScriptFault) → IsBad (drop front.position text) number fault
+  BadHex : ReadsHex words → length text ≤ 2097152 → (number : ℕ) → (fault : HexFault) → hex_fault text ≡ Some (number, fault) → line ≡ bad_line (codes "hex") number (hex_word fault) → IsRefused words text line
+  BadScript : ReadsScript words → (image : List ℕ) → (front : HasHex text image) → (number : ℕ) → (fault : ScriptFault) → script_fault (drop front.position text) ≡ Some (number, fault)
       → line ≡ bad_line (codes "script") number (script_word fault) → IsRefused words text line
   BadScripts : (options : TaskOptions) → IsCommand words (Tasks options) → (image : List ℕ) → (front : HasHex text image) → (number : ℕ) → (fault : ScriptFault)
-      → IsFirst options.count (lines_of (drop front.position text)) number fault → line ≡ bad_line (codes "script") number (script_word fault) → IsRefused words text line
+      → scripts_fault options.count (drop front.position text) ≡ Some (number, fault) → line ≡ bad_line (codes "script") number (script_word fault) → IsRefused words text line
   BadImage : (options : TaskOptions) → IsCommand words (Tasks options) → (image : List ℕ) → (front : HasHex text image) → (scripts : List Schedule)
-      → Schedules options.count (lines_of (drop front.position text)) scripts → (a : ℕ) → IsFirstMisplaced options.count image a
+      → Schedules options.count (drop front.position text) scripts → (a : ℕ) → IsFirstMisplaced options.count image a
       → line ≡ codes "bad task image " ++ address a ++ codes "\n" → IsRefused words text line
   BadDump : IsCommand words Check → (image : List ℕ) → (front : HasHex text image) → (number : ℕ) → (fault : DumpFault) → dump_fault (drop front.position text) ≡ Some (number, fault)
       → line ≡ bad_line (codes "dump") number (dump_word fault) → IsRefused words text line

@@ -2,7 +2,6 @@
 use Rattle.std.specs.Prelude.{◌≡◌, ℕ, ◌+◌, ◌*◌, ◌/◌, ◌<◌, max, List, [], ◌∷◌, ◌++◌, codes, decimal, flat_map, map, drop, slice_get, slice_index_or, true, false, ◌==◌, if◌then◌else◌}
 use Rattle.std.specs.Prelude.{All, Option, Some, None, ◌≤◌, length, sum_by}
 use Rattle.std.specs.List.{range_with_len}
-use Rattle.line_reader.specs.Lines.{lines_of}
 use Rattle.input_script.specs.declared.input.Event.{Event}
 use Rattle.input_script.specs.Script.{Schedule}
 use Rattle.flash_words.specs.Layouts.{layout_of}
@@ -185,5 +184,5 @@ AsksNoTasks words = (options : TaskOptions) → ¬ IsCommand words (TasksCommand
 pub record AsksTasks (words : List (List ℕ)) (text : List ℕ) (asked : AskedTasks) : Type 0 where
   pub command : IsCommand words (TasksCommand (tasks_options_of asked))
   pub front : HasHex text asked.image
-  pub scripts : Schedules asked.count (lines_of (drop front.position text)) asked.scripts
+  pub scripts : Schedules asked.count (drop front.position text) asked.scripts
   pub placed : (a : ℕ) → ¬ IsMisplaced asked.count asked.image a

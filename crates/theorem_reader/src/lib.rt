@@ -22,12 +22,12 @@
 //! - `is_taken moment`: an interrupt is taken as the next step, in place of an instruction: one is due, bit I of SREG is set, and
 //!   one that was requested is enabled.
 //! - `HexText text image position`, `IsScript text schedule`, `IsDump text flash`, `IsCommand words command`: the text of a HEX
-//!   file up to a position, of a script, of a dump, and the words of a command, as docs/FORMATS.md tells them; `HexBad`,
-//!   `IsBad`, `dump_fault`: the first faulty line of these and its fault; `IsNoCommand`: words that are none; `written image`, the
-//!   text of a HEX file, and `usage_line`, `hex_word` and their like, what is printed of faults.
-//! - `Schedules count lines schedules`, `IsMisplaced count image address`: the script of so many programs, and that a word
+//!   file up to a position, of a script, of a dump, and the words of a command, as docs/FORMATS.md tells them; `hex_fault`,
+//!   `script_fault`, `dump_fault`: the first faulty line of these and its fault; `IsNoCommand`: words that are none;
+//!   `written image`, the text of a HEX file, and `usage_line`, `hex_word` and their like, what is printed of faults.
+//! - `Schedules count text schedules`, `IsMisplaced count image address`: the script of so many programs, and that a word
 //!   stands in their image where none may, outside their 4,096 words or in the last two of these, as docs/TASKS.md tells them;
-//!   `IsFirst`, `IsFirstMisplaced`: the first faulty line, and the first such word.
+//!   `scripts_fault`, `IsFirstMisplaced`: the first faulty line, and the first such word.
 //! - `HasForm`, `HasLinks`: what a page of flash must be by itself, and what it owes to the others (docs/LOADER.md). A page of the
 //!   pool is erased, or it has just the words that are fixed there for the image's instructions from one address on, and stubs.
 //! - `address image t i`, `ends_at image a`, `page_size image t i`: where the instruction of number i stands of those from t on,

@@ -49,7 +49,8 @@ times_most runs a zero = omega arith
 times_most runs a (suc k) = most_by (begins_at runs a k) (times_at runs a k) k (times_most runs a k)
 
 -- one count is raised
-raised_by : (same : Bool) (counts : List ℕ) (at a now : ℕ) → (at == a) ≡ same → at < length counts → slice_index counts a ≡ now → slice_index (slice_set counts at (slice_index counts at + 1)) a ≡ cond (at == a) (now + 1) now
+raised_by : (same : Bool) (counts : List ℕ) (at a now : ℕ) → (at == a) ≡ same → at < length counts → slice_index counts a ≡ now
+    → slice_index (slice_set counts at (slice_index counts at + 1)) a ≡ cond (at == a) (now + 1) now
 raised_by true counts at a now is inside was =
     let here : at ≡ a = eqb-true at a is in
     subst (λ k. slice_index (slice_set counts at (slice_index counts at + 1)) k ≡ cond (at == k) (now + 1) now) here
@@ -58,7 +59,8 @@ raised_by false counts at a now is inside was =
     get_or-set_other counts at a (slice_index counts at + 1) 0 (λ same. let e : true ≡ false = sym (eq-eqb at a (sym same)) ∙ is in absurd (cc)) ∙ was ∙ sym (ap (λ b. cond b (now + 1) now) is)
 
 -- behind a turn of one step
-counted_gone : (old now new : Machine) (i count : ℕ) (line : Option Line) (counts : List ℕ) → length counts ≡ 65536 → now.at < 65536 → count ≤ 1 → IsCountedSoFar old now i counts → HasTurned now new count line → new.end ≡ None → 1 ≤ count
+counted_gone : (old now new : Machine) (i count : ℕ) (line : Option Line) (counts : List ℕ) → length counts ≡ 65536 → now.at < 65536 → count ≤ 1 → IsCountedSoFar old now i counts
+    → HasTurned now new count line → new.end ≡ None → 1 ≤ count
     → IsCountedSoFar old new (i + 1) (slice_set counts now.at (slice_index counts now.at + 1))
 counted_gone old now new i count line counts size inside few way turned going some =
     let runs = original_from old in
@@ -74,24 +76,31 @@ counted_gone old now new i count line counts size inside few way turned going so
       between = between;
       counted = λ a low.
           raised_by (now.at == a) counts now.at a (times_at runs a i) refl (omega (arith, size, inside)) (way.counted a low)
-          ∙ sym (times_on runs a i (i + 1) (omega arith) (lt-ltb (runs i).state.now.steps (runs (i + 1)).state.now.steps steps) ∙ ap (λ pc. cond (pc == a) (times_at runs a i + 1) (times_at runs a i)) (ap (λ (s : Moment). s.now.cpu.pc) before));
+          ∙ sym (times_on runs a i (i + 1) (omega arith) (lt-ltb (runs i).state.now.steps (runs (i + 1)).state.now.steps steps)
+          ∙ ap (λ pc. cond (pc == a) (times_at runs a i + 1) (times_at runs a i)) (ap (λ (s : Moment). s.now.cpu.pc) before));
     }
 
-pub counted_turned : (old now new : Machine) (i count : ℕ) (line : Option Line) (counts : List ℕ) → length counts ≡ 65536 → now.at < 65536 → count ≤ 1 → IsCountedSoFar old now i counts → HasTurned now new count line → new.end ≡ None → 1 ≤ count
+pub counted_turned : (old now new : Machine) (i count : ℕ) (line : Option Line) (counts : List ℕ) → length counts ≡ 65536 → now.at < 65536 → count ≤ 1 → IsCountedSoFar old now i counts
+    → HasTurned now new count line → new.end ≡ None → 1 ≤ count
     → IsCountedSoFar old new (i + count) (slice_set counts now.at (slice_index counts now.at + 1))
 counted_turned old now new i count line counts size inside few way turned going some =
     let one : i + 1 ≡ i + count = omega (arith, few, some) in
     subst (λ k. IsCountedSoFar old new k (slice_set counts now.at (slice_index counts now.at + 1))) one (counted_gone old now new i count line counts size inside few way turned going some)
 
 -- at an end
-counted_end : (old new : Machine) (i count n : ℕ) (end : End) (counts : List ℕ) → old.steps ≡ 0 → count ≤ 1 → HasEnded Profile old new i count n end → ((a : ℕ) → a < 65536 → slice_index counts a ≡ times_at (original_from old) a i) → HasCounted old new n counts end
+counted_end : (old new : Machine) (i count n : ℕ) (end : End) (counts : List ℕ) → old.steps ≡ 0 → count ≤ 1 → HasEnded Profile old new i count n end
+    → ((a : ℕ) → a < 65536 → slice_index counts a ≡ times_at (original_from old) a i) → HasCounted old new n counts end
 counted_end old new i count n end counts begins few over counted =
     let all : i ≡ new.steps = omega (arith, over.steps, over.one few, begins) in
     record { text = over.text; advanced = over.advanced; counted = λ a low. counted a low ∙ ap (times_at (original_from old) a) all }
 
-pub counted_ended : (old now new : Machine) (i count n : ℕ) (line : Option Line) (end : End) (counts : List ℕ) → old.steps ≡ 0 → old.end ≡ None → old.broken ≡ false → i < n → count ≤ 1 → IsCountedSoFar old now i counts → HasTurned now new count line → new.end ≡ Some end → HasCounted old new n counts end
+pub counted_ended : (old now new : Machine) (i count n : ℕ) (line : Option Line) (end : End) (counts : List ℕ) → old.steps ≡ 0 → old.end ≡ None → old.broken ≡ false → i < n → count ≤ 1
+    → IsCountedSoFar old now i counts → HasTurned now new count line → new.end ≡ Some end → HasCounted old new n counts end
 counted_ended old now new i count n line end counts begins going whole below few way turned over =
-    counted_end old new i count n end counts begins few (ended Profile old now new i count n line end way.text (profile_untold i count) going whole below (omega (arith, below, few)) way.between turned over) way.counted
+    counted_end old new i count n end counts begins few (ended Profile old now new i count n line end way.text (profile_untold i count) going whole below
+    (omega (arith, below, few)) way.between turned over) way.counted
 
-pub counted_bound : (old now new : Machine) (n : ℕ) (end : End) (counts : List ℕ) → old.steps ≡ 0 → old.end ≡ None → old.broken ≡ false → IsCountedSoFar old now n counts → HasBound now new end → HasCounted old new n counts end
-counted_bound old now new n end counts begins going whole way is = counted_end old new n 0 n end counts begins (omega arith) (bound Profile old now new n end way.text going whole way.between is) way.counted
+pub counted_bound : (old now new : Machine) (n : ℕ) (end : End) (counts : List ℕ) → old.steps ≡ 0 → old.end ≡ None → old.broken ≡ false → IsCountedSoFar old now n counts → HasBound now new end
+    → HasCounted old new n counts end
+counted_bound old now new n end counts begins going whole way is =
+    counted_end old new n 0 n end counts begins (omega arith) (bound Profile old now new n end way.text going whole way.between is) way.counted

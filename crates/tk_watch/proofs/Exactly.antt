@@ -50,30 +50,50 @@ other_job (jobs.Restart request again) is no_run no_line = is
 other_job (jobs.Tasks request) is no_run no_line = is
 other_job (jobs.Write text) is no_run no_line = is
 
-pub no_other_job : {A : Type 0} (options : RunOptions) (before now : Input) (job : Job) → AsksByText (RunAsks options) before now job → ((request : Request) → job ≡ jobs.Run request → ⊥) → ((own : Status) (line : ArrayVec ℕ) → job ≡ jobs.Print own line → ⊥) → A
+pub no_other_job : {A : Type 0} (options : RunOptions) (before now : Input) (job : Job) → AsksByText (RunAsks options) before now job → ((request : Request) → job ≡ jobs.Run request → ⊥)
+    → ((own : Status) (line : ArrayVec ℕ) → job ≡ jobs.Print own line → ⊥) → A
 no_other_job options before now job asks no_run no_line = absurd (other_job job (run_or_line options before now job asks) no_run no_line)
 
 -- one word
-pub one_word : (words : List (String Global)) (first : String Global) (text : List ℕ) → 1 ≤ length words → length words < 2 → first ≡ slice_index_or words 0 first → text ≡ string_bytes first → map string_bytes words ≡ text ∷ []
+pub one_word : (words : List (String Global)) (first : String Global) (text : List ℕ) → 1 ≤ length words → length words < 2 → first ≡ slice_index_or words 0 first → text ≡ string_bytes first
+    → map string_bytes words ≡ text ∷ []
 one_word words first text some one is same =
     let none : length words - 1 ≡ 0 = omega (arith, some, one) in
     first_bytes words first text some is same ∙ ap (λ n. text ∷ map string_bytes (take n (drop 1 words))) none
 
--- the answers
-pub answer_shown : (words : List (List ℕ)) (source source' : Input) (sink sink' : Stream) (view : View) (options : RunOptions) (job : Job) (request : Request) (told : Status) → AskToWatch words view options → AsksByText (RunAsks options) source source' job → job ≡ jobs.Run request
-    → Shows view request sink sink' told ⊎ Says NoMemory (codes "no memory\n") sink sink' told → IsAnswer words source source' sink sink' told
-answer_shown words source source' sink sink' view options job request told watch asks is (inl shows) =
-    record { view = view; job = jobs.Run request; asked = inl (options, watch, subst (AsksByText (RunAsks options) source source') is asks); done = shows }
-answer_shown words source source' sink sink' view options job request told watch asks is (inr none) =
-    record { view = view; job = no_memory; asked = inl (options, watch, text_wants (RunAsks options) source source' (jobs.Run request) tt (subst (AsksByText (RunAsks options) source source') is asks)); done = none }
+module _ (words : List (List ℕ)) (source source' : Input) (sink sink' : Stream) where
+  -- the answers
+  pub answer_shown : (view : View) (options : RunOptions) (job : Job) (request : Request) (told : Status) → AskToWatch words view options → AsksByText (RunAsks options) source source' job
+      → job ≡ jobs.Run request
+      → Shows view request sink sink' told ⊎ Says NoMemory (codes "no memory\n") sink sink' told → IsAnswer words source source' sink sink' told
+  answer_shown view options job request told watch asks is (inl shows) =
+      record { view = view; job = jobs.Run request; asked = inl (options, watch, subst (AsksByText (RunAsks options) source source') is asks); done = shows }
+  answer_shown view options job request told watch asks is (inr none) =
+      record {
+        view = view;
+        job = no_memory;
+        asked = inl (
+          options,
+          watch,
+          text_wants (RunAsks options) source source' (jobs.Run request) tt (subst (AsksByText (RunAsks options) source source') is asks),
+        );
+        done = none;
+      }
 
-pub answer_line : (words : List (List ℕ)) (source source' : Input) (sink sink' : Stream) (view : View) (options : RunOptions) (job : Job) (own : Status) (line : ArrayVec ℕ) (put : List ℕ) (told : Status) → AskToWatch words view options → AsksByText (RunAsks options) source source' job → job ≡ jobs.Print own line
-    → put ≡ line.items → Says own put sink sink' told → IsAnswer words source source' sink sink' told
-answer_line words source source' sink sink' view options job own line put told watch asks is same said =
-    record { view = view; job = jobs.Print own line; asked = inl (options, watch, subst (AsksByText (RunAsks options) source source') is asks); done = subst (λ text. Says own text sink sink' told) same said }
+  pub answer_line : (view : View) (options : RunOptions) (job : Job) (own : Status) (line : ArrayVec ℕ) (put : List ℕ) (told : Status) → AskToWatch words view options
+      → AsksByText (RunAsks options) source source' job → job ≡ jobs.Print own line
+      → put ≡ line.items → Says own put sink sink' told → IsAnswer words source source' sink sink' told
+  answer_line view options job own line put told watch asks is same said =
+      record {
+        view = view;
+        job = jobs.Print own line;
+        asked = inl (options, watch, subst (AsksByText (RunAsks options) source source') is asks);
+        done = subst (λ text. Says own text sink sink' told) same said;
+      }
 
 -- no view is asked for
-pub answer_usage : (words : List (List ℕ)) (source : Input) (sink sink' : Stream) (own : Status) (told : Status) → ((view : View) (options : RunOptions) → ¬ AskToWatch words view options) → (AskForHelp words × (own ≡ Done)) ⊎ ((¬ AskForHelp words) × (own ≡ Usage))
+pub answer_usage : (words : List (List ℕ)) (source : Input) (sink sink' : Stream) (own : Status) (told : Status) → ((view : View) (options : RunOptions) → ¬ AskToWatch words view options)
+    → (AskForHelp words × (own ≡ Done)) ⊎ ((¬ AskForHelp words) × (own ≡ Usage))
     → Says own usage_text sink sink' told → IsAnswer words source source sink sink' told
 answer_usage words source sink sink' own told unwatched (inl help) said =
     record { view = Lines; job = usage own; asked = inr (inl (help.0, ap usage help.1, refl)); done = said }
@@ -93,35 +113,37 @@ help_alone behind view (inr (inr (inr ask))) = let e = ask.0 in absurd (cc)
 no_help : (words : List (List ℕ)) (view : View) (options : RunOptions) → AskForHelp words → ¬ AskToWatch words view options
 no_help words view options help watch = help_alone watch.0 view (subst (λ w. AskForView w watch.0 view) help watch.1)
 
-exact_watch : (words : List (List ℕ)) (source source' : Input) (sink sink' : Stream) (view : View) (options options' : RunOptions) (job whole : Job) (told : Status) → AskToWatch words view options → Asks (Run options) source source' job
-    → AskToWatch words view options' → Warrants (wanted (Run options')) source source' whole → Does view job sink sink' told → Does view no_memory sink sink' told ⊎ Does view whole sink sink' told
-exact_watch words source source' sink sink' view options options' job whole told watch asks watch' warrants done =
-    let same = (one_view words watch'.0 watch.0 view view watch'.1 watch.1).1 in
-    elim (why (codes "run" ∷ watch.0) source source' job whole (inl (Run options, watch.2, asks)) (inl (Run options', subst (λ b. IsCommand (codes "run" ∷ b) (Run options')) same watch'.2, warrants))) [
-      | Wanting is ↦ inl (subst (λ j. Does view j sink sink' told) is done)
-      | Same is ↦ inr (subst (λ j. Does view j sink sink' told) is done)
-    ]
-
 -- the usage line, whatever the view
 usage_done : (own : Status) (a b : View) (job whole : Job) (sink sink' : Stream) (told : Status) → job ≡ usage own → whole ≡ usage own → Does a job sink sink' told → Does b whole sink sink' told
 usage_done own a b job whole sink sink' told is same done =
     let said : Says own usage_text sink sink' told = subst (λ j. Does a j sink sink' told) is done in
     subst (λ j. Does b j sink sink' told) (sym same) said
 
-exactly : (words : List (List ℕ)) (source source' : Input) (sink sink' : Stream) (a b : View) (job whole : Job) (told : Status) → IsAsked words source source' a job → IsWarranted words source source' b whole → Does a job sink sink' told
-    → Does b no_memory sink sink' told ⊎ Does b whole sink sink' told
-exactly words source source' sink sink' a b job whole told (inl asked) (inl other) done =
-    let same = same_view words a b asked.0 other.0 asked.1 other.1 in
-    exact_watch words source source' sink sink' b asked.0 other.0 job whole told (subst (λ v. AskToWatch words v asked.0) same asked.1) asked.2 other.1 other.2 (subst (λ v. Does v job sink sink' told) same done)
-exactly words source source' sink sink' a b job whole told (inl asked) (inr (inl help)) done = absurd (no_help words a asked.0 help.0 asked.1)
-exactly words source source' sink sink' a b job whole told (inl asked) (inr (inr nothing)) done = absurd (nothing.0.unwatched a asked.0 asked.1)
-exactly words source source' sink sink' a b job whole told (inr (inl help)) (inl other) done = absurd (no_help words b other.0 help.0 other.1)
-exactly words source source' sink sink' a b job whole told (inr (inl help)) (inr (inl other)) done = inr (usage_done _ a b job whole sink sink' told help.1 other.1 done)
-exactly words source source' sink sink' a b job whole told (inr (inl help)) (inr (inr nothing)) done = absurd (nothing.0.helpless help.0)
-exactly words source source' sink sink' a b job whole told (inr (inr nothing)) (inl other) done = absurd (nothing.0.unwatched b other.0 other.1)
-exactly words source source' sink sink' a b job whole told (inr (inr nothing)) (inr (inl help)) done = absurd (nothing.0.helpless help.0)
-exactly words source source' sink sink' a b job whole told (inr (inr nothing)) (inr (inr other)) done = inr (usage_done _ a b job whole sink sink' told nothing.1 other.1 done)
+module _ (words : List (List ℕ)) (source source' : Input) (sink sink' : Stream) where
+  exact_watch : (view : View) (options options' : RunOptions) (job whole : Job) (told : Status) → AskToWatch words view options → Asks (Run options) source source' job
+      → AskToWatch words view options' → Warrants (wanted (Run options')) source source' whole → Does view job sink sink' told → Does view no_memory sink sink' told ⊎ Does view whole sink sink' told
+  exact_watch view options options' job whole told watch asks watch' warrants done =
+      let same = (one_view words watch'.0 watch.0 view view watch'.1 watch.1).1 in
+      elim (why (codes "run" ∷ watch.0) source source' job whole (inl (Run options, watch.2, asks))
+      (inl (Run options', subst (λ b. IsCommand (codes "run" ∷ b) (Run options')) same watch'.2, warrants))) [
+        | Wanting is ↦ inl (subst (λ j. Does view j sink sink' told) is done)
+        | Same is ↦ inr (subst (λ j. Does view j sink sink' told) is done)
+      ]
 
--- what is asked for is what is warranted, but for want of memory
-pub answer_is_exact : (words : List (List ℕ)) (source source' : Input) (sink sink' : Stream) (told : Status) → IsAnswer words source source' sink sink' told → IsExact words source source' sink sink' told
-answer_is_exact words source source' sink sink' told answer view whole warranted = exactly words source source' sink sink' answer.view view answer.job whole told answer.asked warranted answer.done
+  exactly : (a b : View) (job whole : Job) (told : Status) → IsAsked words source source' a job → IsWarranted words source source' b whole → Does a job sink sink' told
+      → Does b no_memory sink sink' told ⊎ Does b whole sink sink' told
+  exactly a b job whole told (inl asked) (inl other) done =
+      let same = same_view words a b asked.0 other.0 asked.1 other.1 in
+      exact_watch b asked.0 other.0 job whole told (subst (λ v. AskToWatch words v asked.0) same asked.1) asked.2 other.1 other.2 (subst (λ v. Does v job sink sink' told) same done)
+  exactly a b job whole told (inl asked) (inr (inl help)) done = absurd (no_help words a asked.0 help.0 asked.1)
+  exactly a b job whole told (inl asked) (inr (inr nothing)) done = absurd (nothing.0.unwatched a asked.0 asked.1)
+  exactly a b job whole told (inr (inl help)) (inl other) done = absurd (no_help words b other.0 help.0 other.1)
+  exactly a b job whole told (inr (inl help)) (inr (inl other)) done = inr (usage_done _ a b job whole sink sink' told help.1 other.1 done)
+  exactly a b job whole told (inr (inl help)) (inr (inr nothing)) done = absurd (nothing.0.helpless help.0)
+  exactly a b job whole told (inr (inr nothing)) (inl other) done = absurd (nothing.0.unwatched b other.0 other.1)
+  exactly a b job whole told (inr (inr nothing)) (inr (inl help)) done = absurd (nothing.0.helpless help.0)
+  exactly a b job whole told (inr (inr nothing)) (inr (inr other)) done = inr (usage_done _ a b job whole sink sink' told nothing.1 other.1 done)
+
+  -- what is asked for is what is warranted, but for want of memory
+  pub answer_is_exact : (told : Status) → IsAnswer words source source' sink sink' told → IsExact words source source' sink sink' told
+  answer_is_exact told answer view whole warranted = exactly answer.view view answer.job whole told answer.asked warranted answer.done

@@ -51,7 +51,8 @@ filled_next byte i v filled is same =
     ap₂ (λ a b. a || not (b == 0)) is same ∙ ap (is_filled byte) next
 
 -- a row that is told, and one that isn't
-pub row_told : (memory text line : List ℕ) (at i : ℕ) → i ≡ 16 → true ≡ is_filled (λ k. slice_index memory (at + k)) i → text ≡ address_text at ++ rows (λ k. byte_told (slice_index memory (at + k))) i → line ≡ text ++ codes "\n" → line ≡ row_text memory at
+pub row_told : (memory text line : List ℕ) (at i : ℕ) → i ≡ 16 → true ≡ is_filled (λ k. slice_index memory (at + k)) i → text ≡ address_text at
+    ++ rows (λ k. byte_told (slice_index memory (at + k))) i → line ≡ text ++ codes "\n" → line ≡ row_text memory at
 unfolding row_text
 row_told memory text line at i all filled was is =
     let some : is_filled (λ k. slice_index memory (at + k)) 16 ≡ true = ap (is_filled (λ k. slice_index memory (at + k))) (sym all) ∙ sym filled in

@@ -25,7 +25,8 @@ pub later_next : (bytes old : List ℕ) (i v : ℕ) → ((j : ℕ) → i ≤ j �
 later_next bytes old i v held j above = get_or-set_other bytes i j v 0 (λ same. omega (arith, same, above)) ∙ held j (omega (arith, above))
 
 -- and those in front
-pub front_next : (bytes old : List ℕ) (from i v : ℕ) → from ≤ i → ((j : ℕ) → j < from → slice_index bytes j ≡ slice_index old j) → (j : ℕ) → j < from → slice_index (slice_set bytes i v) j ≡ slice_index old j
+pub front_next : (bytes old : List ℕ) (from i v : ℕ) → from ≤ i → ((j : ℕ) → j < from → slice_index bytes j ≡ slice_index old j) → (j : ℕ) → j < from
+    → slice_index (slice_set bytes i v) j ≡ slice_index old j
 front_next bytes old from i v above held j below = get_or-set_other bytes i j v 0 (λ same. omega (arith, same, above, below)) ∙ held j below
 
 -- a byte that is what it was is not told

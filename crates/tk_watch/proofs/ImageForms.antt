@@ -24,7 +24,8 @@ one_word false first a b is size =
 own_word : (n a : ℕ) (words : List ℕ) → a < n → a < length words → word (take n words) a ≡ word_at words a
 own_word n a words below inside = get_or-take n words a 0xFFFF below ∙ get_or_default words a 0xFFFF 0 inside
 
-pub known_form : (layout : Layout) (words : List ℕ) (a : ℕ) (form : Form) → a < 65536 → length words ≡ 65536 → LiesInImage layout words a → instruction_at (image_of layout words) a ≡ Some form → (decoded_at words a).instr ≡ form
+pub known_form : (layout : Layout) (words : List ℕ) (a : ℕ) (form : Form) → a < 65536 → length words ≡ 65536 → LiesInImage layout words a → instruction_at (image_of layout words) a ≡ Some form
+    → (decoded_at words a).instr ≡ form
 known_form layout words a form small size (inl both) is =
     let first = own_word layout.image_words a words (omega (arith, both)) (omega (arith, small, size)) in
     let second = own_word layout.image_words ((a + 1) % 65536) words (omega (arith, both)) (omega (arith, size)) in

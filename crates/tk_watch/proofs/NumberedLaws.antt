@@ -27,7 +27,8 @@ behind_line : (line : Option Line) (r longer : Run) → Grows r longer → Grows
 behind_line None r longer grows = grows
 behind_line (Some line) r longer grows = (grows.0, ap (λ lines. line ∷ lines) grows.1)
 
-grows_by : (program : Program) (m : Moment) (n : ℕ) (inside : Bool) (next : Next) → is_inside program m.now.cpu.pc ≡ inside → next_of program m ≡ next → ((later : Moment) → Grows (run program later n) (run program later (suc n)))
+grows_by : (program : Program) (m : Moment) (n : ℕ) (inside : Bool) (next : Next) → is_inside program m.now.cpu.pc ≡ inside → next_of program m ≡ next
+    → ((later : Moment) → Grows (run program later n) (run program later (suc n)))
     → Grows (run program m (suc n)) (run program m (suc (suc n)))
 grows_by program m n false next outside is earlier = same_lines _ _ (run_wild program m (suc (suc n)) outside ∙ sym (run_wild program m (suc n) outside))
 grows_by program m n true (Ends end) inside is earlier = same_lines _ _ (run_stops program m (suc n) end inside is ∙ sym (run_stops program m n end inside is))

@@ -16,7 +16,8 @@ unfolding rows
 rows_on row a m is = ap (rows row) is
 
 -- behind one more
-pub rows_next : (row : ℕ → List ℕ) (at : ℕ) (front gathered left : List ℕ) (before after later : Option (List ℕ)) → IsSent (front ++ rows row at) gathered before after → IsSent (gathered ++ row at) left after later → IsSent (front ++ rows row (at + 1)) left before later
+pub rows_next : (row : ℕ → List ℕ) (at : ℕ) (front gathered left : List ℕ) (before after later : Option (List ℕ)) → IsSent (front ++ rows row at) gathered before after
+    → IsSent (gathered ++ row at) left after later → IsSent (front ++ rows row (at + 1)) left before later
 rows_next row at front gathered left before after later first second =
     let whole : (front ++ rows row at) ++ row at ≡ front ++ rows row (at + 1) = append_assoc front (rows row at) (row at) ∙ ap (λ z. front ++ z) (sym (rows_on row at (at + 1) (omega arith))) in
     subst (λ z. IsSent z left before later) whole (sent_on (front ++ rows row at) gathered (row at) left before after later first second)
@@ -29,7 +30,8 @@ rows_front row a (suc k) m is =
     (earlier.0 ++ row (k + a), rows_on row (k + a) m (omega (arith, is)) ∙ ap (λ z. z ++ row (k + a)) earlier.1 ∙ append_assoc (rows row a) earlier.0 (row (k + a)))
 
 -- one was cut short, and with it all
-pub rows_cut : (row : ℕ → List ℕ) (at all : ℕ) (front gathered : List ℕ) (before after later : Option (List ℕ)) → at < all → IsSent (front ++ rows row at) gathered before after → CutShort after later (gathered ++ row at) → CutShort before later (front ++ rows row all)
+pub rows_cut : (row : ℕ → List ℕ) (at all : ℕ) (front gathered : List ℕ) (before after later : Option (List ℕ)) → at < all → IsSent (front ++ rows row at) gathered before after
+    → CutShort after later (gathered ++ row at) → CutShort before later (front ++ rows row all)
 rows_cut row at all front gathered before after later below first cut =
     let rest = rows_front row (at + 1) (all - (at + 1)) all (omega (arith, below)) in
     let one : (front ++ rows row at) ++ row at ≡ front ++ rows row (at + 1) = append_assoc front (rows row at) (row at) ∙ ap (λ z. front ++ z) (sym (rows_on row at (at + 1) (omega arith))) in

@@ -43,8 +43,10 @@ from_boot request image kept k =
     run_start request.image (new_flash request.image request.script.failing) request.script request.options.quantum request.options.swap 0 k (begun_boot request.image request.script image whole)
 
 -- what was said of a run from boot, as the text of a view
-shown_by : (view : View) (request : Request) (m : Machine) (text said_text : List ℕ) (end : End) (before now : Stream) (told : Status) → IsImage request.image → IsKept (start_of request) → request.options.steps ≤ 10 ^ 9
-    → HasAdvanced (start_of request) m request.options.steps (Some []) (Some text) (Ok end) → said_text ≡ shown view request m.kernel.mote.flash.ops (flat_of m) → Says (status_of_stop end) (said_text ++ stop_of end m) before now told → Shows view request before now told
+shown_by : (view : View) (request : Request) (m : Machine) (text said_text : List ℕ) (end : End) (before now : Stream) (told : Status) → IsImage request.image → IsKept (start_of request)
+    → request.options.steps ≤ 10 ^ 9
+    → HasAdvanced (start_of request) m request.options.steps (Some []) (Some text) (Ok end) → said_text ≡ shown view request m.kernel.mote.flash.ops (flat_of m)
+    → Says (status_of_stop end) (said_text ++ stop_of end m) before now told → Shows view request before now told
 shown_by view request m text said_text end before now told image kept bound advanced is said =
     let old = start_of request in
     let runs = ran_silently request (Ok end) m image kept bound (advanced_whole old m request.options.steps end text None None advanced tt) (record { later = omega arith; failed = tt }) in
@@ -54,26 +56,37 @@ shown_by view request m text said_text end before now told image kept bound adva
     shows_by view request m runs.0 told before now runs.1 (subst (λ t. Says (status_of_stop (kept_end m.end)) (t ++ stop_of (kept_end m.end) m) before now told) is same)
 
 -- a profile's steps were counted, and nothing was told of them
-pub profile_run : (old new : Machine) (n : ℕ) (counts gathered : List ℕ) (known : Option (List ℕ)) (end : End) → gathered ≡ [] → HasCounted old new n counts end → HasRun Profile old new n counts gathered known known (Ok end)
-profile_run old new n counts gathered known end empty counted =
-    (record { text = counted.text; advanced = counted.advanced; sent = subst (λ z. IsSent z gathered known known) (empty ∙ sym (none_told (original_from old) new.steps)) (nothing_sent gathered known) }, counted.counted)
+pub profile_run : (old new : Machine) (n : ℕ) (counts gathered : List ℕ) (known : Option (List ℕ)) (end : End) → gathered ≡ [] → HasCounted old new n counts end
+    → HasRun Profile old new n counts gathered known known (Ok end)
+profile_run old new n counts gathered known end empty counted = (
+  record {
+    text = counted.text;
+    advanced = counted.advanced;
+    sent = subst (λ z. IsSent z gathered known known) (empty ∙ sym (none_told (original_from old) new.steps))
+        (nothing_sent gathered known);
+  },
+  counted.counted,
+)
 
 -- .. and another view counts none
 uncounted : (view : View) (times : ℕ → ℕ) (counts : List ℕ) → (view ≡ Profile → ⊥) → AreCounted view times counts
 uncounted Profile times counts other = absurd (other refl)
 uncounted _ times counts other = tt
 
-pub watched_run : (view : View) (old new : Machine) (n : ℕ) (counts gathered : List ℕ) (before after : Option (List ℕ)) (result : Result End Failed) → (view ≡ Profile → ⊥) → HasWatched view old new n gathered before after result → HasRun view old new n counts gathered before after result
+pub watched_run : (view : View) (old new : Machine) (n : ℕ) (counts gathered : List ℕ) (before after : Option (List ℕ)) (result : Result End Failed) → (view ≡ Profile → ⊥)
+    → HasWatched view old new n gathered before after result → HasRun view old new n counts gathered before after result
 watched_run view old new n counts gathered before after (Ok end) other told = (told, uncounted view _ counts other)
 watched_run view old new n counts gathered before after (Err e) other cut = cut
 
 -- what a view tells at the end, by other counts that are equal
-pub left_same : (view : View) (slots events : ℕ) (counts : List ℕ) (times : ℕ → ℕ) (operations : ℕ) (s : FlatState) → AreCounted view times counts → left_text view slots events (slice_index counts) operations s ≡ left_text view slots events times operations s
+pub left_same : (view : View) (slots events : ℕ) (counts : List ℕ) (times : ℕ → ℕ) (operations : ℕ) (s : FlatState) → AreCounted view times counts
+    → left_text view slots events (slice_index counts) operations s ≡ left_text view slots events times operations s
 left_same Profile slots events counts times operations s counted = profile_same (slice_index counts) times counted
 left_same _ slots events counts times operations s counted = refl
 
 -- .. of another run that is the same
-left_of_same : (view : View) (slots events : ℕ) (runs others : ℕ → Run) → ((k : ℕ) → runs k ≡ others k) → (n operations : ℕ) (s : FlatState) → left_text view slots events (λ a. times_at runs a n) operations s ≡ left_text view slots events (λ a. times_at others a n) operations s
+left_of_same : (view : View) (slots events : ℕ) (runs others : ℕ → Run) → ((k : ℕ) → runs k ≡ others k) → (n operations : ℕ) (s : FlatState)
+    → left_text view slots events (λ a. times_at runs a n) operations s ≡ left_text view slots events (λ a. times_at others a n) operations s
 left_of_same Profile slots events runs others same n operations s = profile_same (λ a. times_at runs a n) (λ a. times_at others a n) (λ a below. times_same runs others same a n)
 left_of_same _ slots events runs others same n operations s = refl
 
@@ -86,7 +99,8 @@ view_shown view request m before now told image kept bound (HasShown.Whole text 
     let own = original_of request in
     let ops = m.kernel.mote.flash.ops in
     let shown_of = told_text view runs m.steps ++ left_text view slots events (λ a. times_at runs a m.steps) ops (flat_of m).now in
-    let same = ap₂ (λ a b. a ++ b) (told_same view runs own (from_boot request image kept) m.steps) (left_of_same view slots events runs own (from_boot request image kept) m.steps ops (flat_of m).now) in
+    let same = ap₂ (λ a b. a ++ b) (told_same view runs own (from_boot request image kept) m.steps)
+    (left_of_same view slots events runs own (from_boot request image kept) m.steps ops (flat_of m).now) in
     let parts : told_text view runs m.steps ++ (left_text view slots events (λ a. times_at runs a m.steps) ops (flat_of m).now ++ stop_of end m) ≡ shown_of ++ stop_of end m =
     sym (append_assoc (told_text view runs m.steps) (left_text view slots events (λ a. times_at runs a m.steps) ops (flat_of m).now) (stop_of end m)) in
     shown_by view request m text shown_of end before now told image kept bound advanced same (subst (λ t. Says (status_of_stop end) t before now told) parts said)
@@ -95,9 +109,11 @@ view_shown view request m before now told image kept bound (HasShown.Cut is rose
     Shows.Cut (record { status_is = is; rose = rose; done = cut.done; within = cut.within; put = subst (CutShort before.told now.told) same cut.put })
 
 -- .. of a machine from boot, if memory served
-pub request_shown : {E : Type 0} (view : View) (request : Request) (begun : Result Start E) (events : ℕ) (before now : Stream) (told : Status) → IsImage request.image → AreOptions request.options → events ≡ length request.script.events
+pub request_shown : {E : Type 0} (view : View) (request : Request) (begun : Result Start E) (events : ℕ) (before now : Stream) (told : Status) → IsImage request.image → AreOptions request.options
+    → events ≡ length request.script.events
     → IfOk begun (λ s. whole s.kernel s.progress ≡ start_of request) → IfOk begun (λ s. IsStart (whole s.kernel s.progress) s.counts.items)
-    → MatchResult begun (λ s. (new : Machine) × HasShown view request.options.swap events (whole s.kernel s.progress) new request.options.steps before now told) (λ none. Says NoMemory (codes "no memory\n") before now told)
+    → MatchResult begun (λ s. (new : Machine) × HasShown view request.options.swap events (whole s.kernel s.progress) new request.options.steps before now told)
+    (λ none. Says NoMemory (codes "no memory\n") before now told)
     → Shows view request before now told ⊎ Says NoMemory (codes "no memory\n") before now told
 request_shown view request (Ok s) events before now told image options same booted start shown =
     let counted = subst (λ n. HasShown view request.options.swap n (whole s.kernel s.progress) shown.0 request.options.steps before now told) same shown.1 in

@@ -94,9 +94,11 @@ unfolding answer_of push_on pop_from push_return_on pop_return_from
 answer_spares Nothing b w s apart is = is
 answer_spares (Load a) b w s apart is = answered_by-leaves (HasByte b w) Byte (flat_calls.load s a) (loads (is_stack a || is_heap a) b w a s is)
 answer_spares (Store a v) b w s apart is = answered_by-leaves (HasByte b w) (λ _. Done) (flat_calls.store s a v) (stores (is_stack a) (is_heap a) b w a v s apart is)
-answer_spares (Modify a clear set) b w s apart is = answered_by-leaves (HasByte b w) (λ _. Done) (to_device s a (modify_device s.devices a clear set)) (device_writes b w a s (modify_device s.devices a clear set) is)
+answer_spares (Modify a clear set) b w s apart is =
+    answered_by-leaves (HasByte b w) (λ _. Done) (to_device s a (modify_device s.devices a clear set)) (device_writes b w a s (modify_device s.devices a clear set) is)
 answer_spares (PushByte sp v) b w s apart is = answered_by-leaves (HasByte b w) (λ _. Done) (push_on flat_stack s sp v) (pushes (is_stack sp) b w sp v s apart is)
-answer_spares (PopByte sp) b w s apart is = answered_by-leaves (HasByte b w) Byte (pop_from flat_stack s sp) (pops (is_stack (wrapping_sum sp 1)) b w (wrapping_sum sp 1) (slice_index s.memory (wrapping_sum sp 1)) s is)
+answer_spares (PopByte sp) b w s apart is =
+    answered_by-leaves (HasByte b w) Byte (pop_from flat_stack s sp) (pops (is_stack (wrapping_sum sp 1)) b w (wrapping_sum sp 1) (slice_index s.memory (wrapping_sum sp 1)) s is)
 answer_spares (PushReturn sp ret) b w s apart is =
     answered_by-leaves (HasByte b w) (λ _. Done) (push_return_on flat_stack s sp ret)
     (returns_pushed (is_stack sp) (is_stack (wrapping_difference sp 1)) b w sp (ret % 256) (ret / 256) s refl (λ same. apart (inl same)) (λ same. apart (inr same)) is)
@@ -144,13 +146,15 @@ form_leaves b w program s Spm apart is = tt
 form_leaves b w program s Sleep apart is = sleeps (has_bit s.cpu.sreg interrupts) b w s (wake s.devices) is
 form_leaves b w program s form apart is = reads_or b w program s form (foreign_word program s form) (executed_leaves b w program s form apart is)
 
-try_leaves : (b w : ℕ) (program : Program) (s : FlatState) (found : Option Form) → ((form : Form) → found ≡ Some form → ¬ IsTouched (ask_of form s.cpu) b) → slice_index s.memory b ≡ w → TryLeaves b w (tried_form program s found)
+try_leaves : (b w : ℕ) (program : Program) (s : FlatState) (found : Option Form) → ((form : Form) → found ≡ Some form → ¬ IsTouched (ask_of form s.cpu) b) → slice_index s.memory b ≡ w
+    → TryLeaves b w (tried_form program s found)
 try_leaves b w program s None apart is = tt
 try_leaves b w program s (Some form) apart is = form_leaves b w program s form (apart form refl) is
 
 goes_on : (quantum b w : ℕ) (s : FlatState) (t : Tried) (line : Option Line) (next : Moment) → TryLeaves b w t → next_by quantum s t ≡ On line next → slice_index next.now.memory b ≡ w
 goes_on quantum b w s (Stops end) line next left goes = absurd (cc)
-goes_on quantum b w s (Goes own later) line next left goes = let same : record { now = later; due = is_checkpoint quantum s later } ≡ next = cc in ap (λ (m : Moment). slice_index m.now.memory b) (sym same) ∙ left
+goes_on quantum b w s (Goes own later) line next left goes = let same : record { now = later; due = is_checkpoint quantum s later } ≡ next =
+    cc in ap (λ (m : Moment). slice_index m.now.memory b) (sym same) ∙ left
 goes_on quantum b w s (Wakes later) line next left goes = let same : record { now = later; due = true } ≡ next = cc in ap (λ (m : Moment). slice_index m.now.memory b) (sym same) ∙ left
 
 -- A step leaves each byte that its instruction doesn't touch, where no interrupt is taken.

@@ -7,7 +7,7 @@ use Rattle.printed_text.specs.Ends.{end_text, stop_text}
 use Rattle.printed_text.specs.StopLines.{end_line, how_text}
 use Rattle.line_gathering.proofs.Gathered.{all_on, rest_cut}
 use Rattle.printed_text.proofs.StopLines.{line_of}
-use Rattle.flat_machine.specs.FlatMachine.{Moment, End as FlatEnd, Spent, Wild, Illegal, SelfProgram, Asleep, Halted, Read, Io, Stack, SwapFull}
+use Rattle.flat_machine.specs.FlatMachine.{Moment, End as FlatEnd, Spent}
 use Rattle.mote_devices.specs.declared.line.Line.{Line}
 use Rattle.kernel_entry.specs.declared.kernel.End.{End}
 use Rattle.kernel_entry.specs.declared.kernel.End.TheVariants as ends
@@ -40,15 +40,7 @@ of_kept e m kept other = subst (λ o. IsStop e (kept_end o)) (sym kept.1) (is_st
 
 kept_stop : (e : FlatEnd) (m : Machine) → KeepsEnd e m → IsStop e (kept_end m.end)
 kept_stop Spent m kept = subst (λ o. IsStop Spent (kept_end o)) (sym kept) (record { how = refl; status_is = refl })
-kept_stop (Wild pc) m kept = of_kept (Wild pc) m kept (λ spent. absurd (cc))
-kept_stop (Illegal pc) m kept = of_kept (Illegal pc) m kept (λ spent. absurd (cc))
-kept_stop (SelfProgram pc) m kept = of_kept (SelfProgram pc) m kept (λ spent. absurd (cc))
-kept_stop (Asleep pc) m kept = of_kept (Asleep pc) m kept (λ spent. absurd (cc))
-kept_stop (Halted pc) m kept = of_kept (Halted pc) m kept (λ spent. absurd (cc))
-kept_stop (Read pc a) m kept = of_kept (Read pc a) m kept (λ spent. absurd (cc))
-kept_stop (Io pc a) m kept = of_kept (Io pc a) m kept (λ spent. absurd (cc))
-kept_stop (Stack pc a) m kept = of_kept (Stack pc a) m kept (λ spent. absurd (cc))
-kept_stop (SwapFull pc a) m kept = of_kept (SwapFull pc a) m kept (λ spent. absurd (cc))
+kept_stop e m kept = of_kept e m kept (λ spent. absurd (cc))
 
 -- the stop line, by the original's counts
 stop_as : (end : End) (m : Machine) (steps crossings quantum : ℕ) → m.steps ≡ steps → m.crossings ≡ crossings → m.kernel.quantum ≡ quantum → stop_of end m ≡ end_line end steps (crossings / quantum)
@@ -67,8 +59,10 @@ shows_ended view request m own told before now unlisted run said =
     let stop : stop_of end m ≡ stop_text r.end r.state.now.steps (checkpoints_of request r) =
     stop_as end m r.state.now.steps r.state.now.crossings request.options.quantum steps crossings run.follows.at.quantum
     ∙ line_of end r.end r.state.now.steps (checkpoints_of request r) is.how in
-    let text : shown view request m.kernel.mote.flash.ops (flat_of m) ++ stop_of end m ≡ ended_text view request m.kernel.mote.flash.ops = ap₂ (λ a b. a ++ b) (ap (shown view request m.kernel.mote.flash.ops) state) stop in
-    Shows.Ended m own unlisted run (subst (λ s. Says s (ended_text view request m.kernel.mote.flash.ops) before now told) is.status_is (subst (λ t. Says (status_of_stop end) t before now told) text said))
+    let text : shown view request m.kernel.mote.flash.ops (flat_of m) ++ stop_of end m ≡ ended_text view request m.kernel.mote.flash.ops =
+    ap₂ (λ a b. a ++ b) (ap (shown view request m.kernel.mote.flash.ops) state) stop in
+    Shows.Ended m own unlisted run (subst (λ s. Says s (ended_text view request m.kernel.mote.flash.ops) before now told) is.status_is
+    (subst (λ t. Says (status_of_stop end) t before now told) text said))
 
 shows_failed : (view : View) (request : Request) (m : Machine) (own told : Status) (before now : Stream) → (run : RunsIntoAFault request silent silent own m)
     → Says (status_of_stop (kept_end m.end)) (shown view request m.kernel.mote.flash.ops (flat_of m) ++ stop_of (kept_end m.end) m) before now told → Shows view request before now told
@@ -78,7 +72,8 @@ shows_failed view request m own told before now run said =
     let state = run.follows.at.state in
     let crossings : m.crossings ≡ r.state.now.crossings = ap (λ (s : Moment). s.now.crossings) state in
     let stop : stop_of end m ≡ end_line end m.steps (checkpoints_of request r) = stop_as end m m.steps r.state.now.crossings request.options.quantum refl crossings run.follows.at.quantum in
-    let text : shown view request m.kernel.mote.flash.ops (flat_of m) ++ stop_of end m ≡ failed_text view request run.op m.steps = ap₂ (λ a b. a ++ b) (ap₂ (shown view request) (sym run.last) state) stop in
+    let text : shown view request m.kernel.mote.flash.ops (flat_of m) ++ stop_of end m ≡ failed_text view request run.op m.steps =
+    ap₂ (λ a b. a ++ b) (ap₂ (shown view request) (sym run.last) state) stop in
     let kept = subst (λ e. Says (status_of_stop e) (shown view request m.kernel.mote.flash.ops (flat_of m) ++ stop_of e m) before now told) (ap kept_end run.end) said in
     Shows.Failed m own run (subst (λ t. Says status.FlashFault t before now told) text kept)
 
@@ -97,12 +92,14 @@ answers_kept old new n done lines (ends.Wild t) is = ap kept_end is.kept
 answers_kept old new n done lines (ends.Stopped stop) is = ap kept_end is.kept
 
 -- what was gathered went out, and more behind it
-pub said_behind : (own told : Status) (before mid now : Stream) (text gathered more : List ℕ) → IsSent text gathered before.told mid.told → before.faults ≤ mid.faults → Says own (gathered ++ more) mid now told → Says own (text ++ more) before now told
+pub said_behind : (own told : Status) (before mid now : Stream) (text gathered more : List ℕ) → IsSent text gathered before.told mid.told → before.faults ≤ mid.faults
+    → Says own (gathered ++ more) mid now told → Says own (text ++ more) before now told
 said_behind own told before mid now text gathered more sent later said =
     let parts : sent.sent ++ (gathered ++ more) ≡ text ++ more = sym (append_assoc sent.sent gathered more) ∙ ap (λ z. z ++ more) (sym sent.parts) in
     subst (λ t. Says own t before now told) parts (said_on own told before mid now sent.sent (gathered ++ more) sent.appended later said)
 
 -- what was gathered went out, and no more
-pub puts_behind : (result : Result (Unit {0}) Failed) (text gathered : List ℕ) (before mid now : Option (List ℕ)) → IsSent text gathered before mid → Puts mid now result gathered → Puts before now result text
+pub puts_behind : (result : Result (Unit {0}) Failed) (text gathered : List ℕ) (before mid now : Option (List ℕ)) → IsSent text gathered before mid → Puts mid now result gathered
+    → Puts before now result text
 puts_behind (Ok done) text gathered before mid now first rest = all_on text gathered before mid now first rest
 puts_behind (Err e) text gathered before mid now first rest = rest_cut text gathered before mid now first rest

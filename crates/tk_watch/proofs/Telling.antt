@@ -40,52 +40,70 @@ pub record IsToldSoFar (view : View) (old now : Machine) (i : ℕ) (gathered : L
 front_told : (view : View) (m : Machine) → IsGoing m → IsQuiet m → told_text view (original_from m) 0 ≡ front_text view (flat_of m).now
 front_told view m ready quiet = ap (λ (s : Moment). front_text view s.now) (left m m 0 (Some []) (Some []) (between_start m (Some []) ready quiet).ran)
 
-pub told_start : (view : View) (m : Machine) (gathered rest : List ℕ) (before after : Option (List ℕ)) → IsGoing m → IsQuiet m → gathered ≡ [] → IsSent (gathered ++ front_text view (flat_of m).now) rest before after → IsToldSoFar view m m 0 rest before after
+pub told_start : (view : View) (m : Machine) (gathered rest : List ℕ) (before after : Option (List ℕ)) → IsGoing m → IsQuiet m → gathered ≡ []
+    → IsSent (gathered ++ front_text view (flat_of m).now) rest before after → IsToldSoFar view m m 0 rest before after
 told_start view m gathered rest before after ready quiet empty sent = record {
   text = [];
   between = between_start m (Some []) ready quiet;
   sent = subst (λ z. IsSent z rest before after) (ap (λ g. g ++ front_text view (flat_of m).now) empty ∙ sym (front_told view m ready quiet)) sent;
 }
 
-pub cut_start : (view : View) (m : Machine) (gathered : List ℕ) (before after : Option (List ℕ)) → IsGoing m → IsQuiet m → gathered ≡ [] → CutShort before after (gathered ++ front_text view (flat_of m).now) → CutShort before after (told_text view (original_from m) 0)
+pub cut_start : (view : View) (m : Machine) (gathered : List ℕ) (before after : Option (List ℕ)) → IsGoing m → IsQuiet m → gathered ≡ []
+    → CutShort before after (gathered ++ front_text view (flat_of m).now) → CutShort before after (told_text view (original_from m) 0)
 cut_start view m gathered before after ready quiet empty cut = subst (CutShort before after) (ap (λ g. g ++ front_text view (flat_of m).now) empty ∙ sym (front_told view m ready quiet)) cut
 
--- behind what went out in turn
-pub told_in_turn : (view : View) (old now : Machine) (i : ℕ) (gathered rest : List ℕ) (before after later : Option (List ℕ)) → IsToldSoFar view old now i gathered before after → IsSent (gathered ++ []) rest after later → IsToldSoFar view old now i rest before later
-told_in_turn view old now i gathered rest before after later way sent = record {
-  text = way.text;
-  between = way.between;
-  sent = subst (λ z. IsSent z rest before later) (append-nil (told_text view (original_from old) i)) (sent_on (told_text view (original_from old) i) gathered [] rest before after later way.sent sent);
-}
+module _ (view : View) (old now : Machine) (i : ℕ) where
+  abbrev pub so_far : List ℕ
+  so_far = told_text view (original_from old) i
 
-pub cut_in_turn : (view : View) (old now : Machine) (i : ℕ) (gathered : List ℕ) (before after later : Option (List ℕ)) → IsToldSoFar view old now i gathered before after → CutShort after later (gathered ++ []) → CutShort before later (told_text view (original_from old) i)
-cut_in_turn view old now i gathered before after later way cut =
-    subst (CutShort before later) (append-nil (told_text view (original_from old) i)) (cut_on (told_text view (original_from old) i) gathered [] before after later way.sent cut)
+  -- behind what went out in turn
+  pub told_in_turn : (gathered rest : List ℕ) (before after later : Option (List ℕ)) → IsToldSoFar view old now i gathered before after → IsSent (gathered ++ []) rest after later
+      → IsToldSoFar view old now i rest before later
+  told_in_turn gathered rest before after later way sent = record {
+    text = way.text;
+    between = way.between;
+    sent = subst (λ z. IsSent z rest before later) (append-nil so_far) (sent_on so_far gathered [] rest before after later way.sent sent);
+  }
+
+  pub cut_in_turn : (gathered : List ℕ) (before after later : Option (List ℕ)) → IsToldSoFar view old now i gathered before after → CutShort after later (gathered ++ []) → CutShort before later so_far
+  cut_in_turn gathered before after later way cut =
+      subst (CutShort before later) (append-nil so_far) (cut_on so_far gathered [] before after later way.sent cut)
 
 -- behind a turn
-pub turned_on : (view : View) (old now new : Machine) (i count : ℕ) (line : Option Line) (gathered : List ℕ) (before after : Option (List ℕ)) → AreUntold view i count → IsToldSoFar view old now i gathered before after → HasTurned now new count line → new.end ≡ None → HasGone view old now new i (i + count) line
+pub turned_on : (view : View) (old now new : Machine) (i count : ℕ) (line : Option Line) (gathered : List ℕ) (before after : Option (List ℕ)) → AreUntold view i count
+    → IsToldSoFar view old now i gathered before after → HasTurned now new count line → new.end ≡ None → HasGone view old now new i (i + count) line
 turned_on view old now new i count line gathered before after untold way turned going = gone view old now new i count line way.text untold way.between turned going
 
-turn_told : (view : View) (old now new : Machine) (i j : ℕ) (line : Option Line) (bytes : List ℕ) → HasGone view old now new i j line → AreHeld view (flat_of now).now.memory bytes
-    → told_text view (original_from old) i ++ step_told view j (line_before line []) (flat_of now).now.cpu.pc bytes (flat_of new).now ≡ told_text view (original_from old) j
-turn_told view old now new i j line bytes on held =
-    ap (λ t. told_text view (original_from old) i ++ t) (step_same view j (line_before line []) (flat_of now).now (flat_of new).now bytes held) ∙ sym on.told
+module _ (view : View) (old now new : Machine) (i j : ℕ) (line : Option Line) where
+  abbrev pub told_before : List ℕ
+  told_before = told_text view (original_from old) i
 
-pub told_gone : (view : View) (old now new : Machine) (i j : ℕ) (line : Option Line) (bytes gathered rest : List ℕ) (before after later : Option (List ℕ)) → HasGone view old now new i j line → IsToldSoFar view old now i gathered before after → AreHeld view (flat_of now).now.memory bytes
-    → IsSent (gathered ++ step_told view j (line_before line []) (flat_of now).now.cpu.pc bytes (flat_of new).now) rest after later → IsToldSoFar view old new j rest before later
-told_gone view old now new i j line bytes gathered rest before after later on way held sent = record {
-  text = on.text;
-  between = on.between;
-  sent = subst (λ z. IsSent z rest before later) (turn_told view old now new i j line bytes on held) (sent_on (told_text view (original_from old) i) gathered _ rest before after later way.sent sent);
-}
+  abbrev pub last_told : List ℕ → List ℕ
+  last_told bytes = step_told view j (line_before line []) (flat_of now).now.cpu.pc bytes (flat_of new).now
 
-pub cut_gone : (view : View) (old now new : Machine) (i j : ℕ) (line : Option Line) (bytes gathered : List ℕ) (before after later : Option (List ℕ)) → HasGone view old now new i j line → IsToldSoFar view old now i gathered before after → AreHeld view (flat_of now).now.memory bytes
-    → CutShort after later (gathered ++ step_told view j (line_before line []) (flat_of now).now.cpu.pc bytes (flat_of new).now) → CutShort before later (told_text view (original_from old) j)
-cut_gone view old now new i j line bytes gathered before after later on way held cut =
-    subst (CutShort before later) (turn_told view old now new i j line bytes on held) (cut_on (told_text view (original_from old) i) gathered _ before after later way.sent cut)
+  turn_told : (bytes : List ℕ) → HasGone view old now new i j line → AreHeld view (flat_of now).now.memory bytes
+      → told_before ++ last_told bytes ≡ told_text view (original_from old) j
+  turn_told bytes on held =
+      ap (λ t. told_before ++ t) (step_same view j (line_before line []) (flat_of now).now (flat_of new).now bytes held) ∙ sym on.told
+
+  pub told_gone : (bytes gathered rest : List ℕ) (before after later : Option (List ℕ)) → HasGone view old now new i j line → IsToldSoFar view old now i gathered before after
+      → AreHeld view (flat_of now).now.memory bytes
+      → IsSent (gathered ++ last_told bytes) rest after later → IsToldSoFar view old new j rest before later
+  told_gone bytes gathered rest before after later on way held sent = record {
+    text = on.text;
+    between = on.between;
+    sent = subst (λ z. IsSent z rest before later) (turn_told bytes on held) (sent_on told_before gathered _ rest before after later way.sent sent);
+  }
+
+  pub cut_gone : (bytes gathered : List ℕ) (before after later : Option (List ℕ)) → HasGone view old now new i j line → IsToldSoFar view old now i gathered before after
+      → AreHeld view (flat_of now).now.memory bytes
+      → CutShort after later (gathered ++ last_told bytes) → CutShort before later (told_text view (original_from old) j)
+  cut_gone bytes gathered before after later on way held cut =
+      subst (CutShort before later) (turn_told bytes on held) (cut_on told_before gathered _ before after later way.sent cut)
 
 -- at an end
-told_end : (view : View) (old new : Machine) (i count n : ℕ) (end : End) (gathered : List ℕ) (before after : Option (List ℕ)) → old.steps ≡ 0 → HasEnded view old new i count n end → IsSent (told_text view (original_from old) i) gathered before after → HasTold view old new n gathered before after end
+told_end : (view : View) (old new : Machine) (i count n : ℕ) (end : End) (gathered : List ℕ) (before after : Option (List ℕ)) → old.steps ≡ 0 → HasEnded view old new i count n end
+    → IsSent (told_text view (original_from old) i) gathered before after → HasTold view old new n gathered before after end
 told_end view old new i count n end gathered before after begins over sent =
     let all : over.done ≡ new.steps = omega (arith, over.steps, begins) in
     record {
@@ -94,25 +112,31 @@ told_end view old new i count n end gathered before after begins over sent =
       sent = subst (λ z. IsSent z gathered before after) (sym over.told ∙ ap (told_text view (original_from old)) all) sent;
     }
 
-pub told_ended : (view : View) (old now new : Machine) (i count n : ℕ) (line : Option Line) (end : End) (gathered : List ℕ) (before after : Option (List ℕ)) → AreUntold view i count → old.steps ≡ 0 → old.end ≡ None → old.broken ≡ false → i < n → i + count ≤ n → IsToldSoFar view old now i gathered before after → HasTurned now new count line → new.end ≡ Some end
+pub told_ended : (view : View) (old now new : Machine) (i count n : ℕ) (line : Option Line) (end : End) (gathered : List ℕ) (before after : Option (List ℕ)) → AreUntold view i count → old.steps ≡ 0
+    → old.end ≡ None → old.broken ≡ false → i < n → i + count ≤ n → IsToldSoFar view old now i gathered before after → HasTurned now new count line → new.end ≡ Some end
     → HasTold view old new n gathered before after end × (new.steps ≤ i + count)
 told_ended view old now new i count n line end gathered before after untold begins going whole below within way turned over =
     let over' = ended view old now new i count n line end way.text untold going whole below within way.between turned over in
     (told_end view old new i count n end gathered before after begins over' way.sent, omega (arith, over'.steps, over'.most, begins))
 
-pub told_bound : (view : View) (old now new : Machine) (n : ℕ) (end : End) (gathered : List ℕ) (before after : Option (List ℕ)) → old.steps ≡ 0 → old.end ≡ None → old.broken ≡ false → IsToldSoFar view old now n gathered before after → HasBound now new end → HasTold view old new n gathered before after end
-told_bound view old now new n end gathered before after begins going whole way is = told_end view old new n 0 n end gathered before after begins (bound view old now new n end way.text going whole way.between is) way.sent
+pub told_bound : (view : View) (old now new : Machine) (n : ℕ) (end : End) (gathered : List ℕ) (before after : Option (List ℕ)) → old.steps ≡ 0 → old.end ≡ None → old.broken ≡ false
+    → IsToldSoFar view old now n gathered before after → HasBound now new end → HasTold view old new n gathered before after end
+told_bound view old now new n end gathered before after begins going whole way is =
+    told_end view old new n 0 n end gathered before after begins (bound view old now new n end way.text going whole way.between is) way.sent
 
 -- Turns that went out. --------------------------------------------------------------------------------------------
 
-went_out : {K : Type 0} (taken : K → Option (List ℕ)) (view : View) (old now : Machine) (before after : K) (done : ℕ) (gathered : List ℕ) → IsToldSoFar view old now done gathered (taken before) (taken after) → gathered ≡ [] → HadAll taken view old before done
+went_out : {K : Type 0} (taken : K → Option (List ℕ)) (view : View) (old now : Machine) (before after : K) (done : ℕ) (gathered : List ℕ)
+    → IsToldSoFar view old now done gathered (taken before) (taken after) → gathered ≡ [] → HadAll taken view old before done
 went_out taken view old now before after done gathered way empty = record {
   sink = after;
-  put = all_on (told_text view (original_from old) done) gathered (taken before) (taken after) (taken after) way.sent (subst (Appends (taken after) (taken after)) (sym empty) (appends-nothing (taken after)));
+  put = all_on (told_text view (original_from old) done) gathered (taken before) (taken after) (taken after) way.sent
+      (subst (Appends (taken after) (taken after)) (sym empty) (appends-nothing (taken after)));
 }
 
 -- up to the next
-pub turns_on : {K : Type 0} (taken : K → Option (List ℕ)) (view : View) (old now : Machine) (before after : K) (done : ℕ) (gathered : List ℕ) → GoOutInTurn taken view old before done → IsToldSoFar view old now done gathered (taken before) (taken after)
+pub turns_on : {K : Type 0} (taken : K → Option (List ℕ)) (view : View) (old now : Machine) (before after : K) (done : ℕ) (gathered : List ℕ) → GoOutInTurn taken view old before done
+    → IsToldSoFar view old now done gathered (taken before) (taken after)
     → (done % turn_steps ≡ 0 → gathered ≡ []) → GoOutInTurn taken view old before (done + (turn_steps - done % turn_steps))
 turns_on taken view old now before after done gathered turns way empty turn below =
     elim (cases_lt (turn_steps * turn) done) [
@@ -124,7 +148,8 @@ turns_on taken view old now before after done gathered turns way empty turn belo
     ]
 
 -- by the count of steps
-pub turns_left : {K : Type 0} (taken : K → Option (List ℕ)) (view : View) (old : Machine) (before : K) (most steps : ℕ) → GoOutInTurn taken view old before most → steps ≤ most → GoOutInTurn taken view old before steps
+pub turns_left : {K : Type 0} (taken : K → Option (List ℕ)) (view : View) (old : Machine) (before : K) (most steps : ℕ) → GoOutInTurn taken view old before most → steps ≤ most
+    → GoOutInTurn taken view old before steps
 turns_left taken view old before most steps turns few turn below = turns turn (omega (arith, below, few))
 
 -- The bytes that are held. ----------------------------------------------------------------------------------------
@@ -134,7 +159,8 @@ step_next : (last new : Machine) (line : Option Line) → StepWay last new line 
 step_next last new line (StepWay.On ready quiet steps is) going = is
 step_next last new line (StepWay.Stopped stop over kept none steps is same) going = absurd (no_end new (ends.Stopped stop) kept going)
 
-entered_next : (now mid last new : Machine) (line : Option Line) → HasEntered now mid None → mid ≡ last → next_of (program_of last.kernel) (flat_of last) ≡ On line (flat_of new) → next_of (program_of now.kernel) (flat_of now) ≡ On line (flat_of new)
+entered_next : (now mid last new : Machine) (line : Option Line) → HasEntered now mid None → mid ≡ last → next_of (program_of last.kernel) (flat_of last) ≡ On line (flat_of new)
+    → next_of (program_of now.kernel) (flat_of now) ≡ On line (flat_of new)
 entered_next now mid last new line entered same is =
     ap (λ program. next_of program (flat_of now)) (sym entered.stays.program)
     ∙ ap (next_of (program_of mid.kernel)) (sym entered.flat)
@@ -166,7 +192,8 @@ single at count i steps untold = elim (cases_lt 1 steps) [
   | inr few ↦ few
 ]
 
-pub held_beside : (view : View) (now new : Machine) (i count from to : ℕ) (line : Option Line) (bytes : List ℕ) → AreUntold view i count → HasTurned now new count line → new.end ≡ None → IsSpared view now from to → AreHeld view (flat_of now).now.memory bytes
+pub held_beside : (view : View) (now new : Machine) (i count from to : ℕ) (line : Option Line) (bytes : List ℕ) → AreUntold view i count → HasTurned now new count line → new.end ≡ None
+    → IsSpared view now from to → AreHeld view (flat_of now).now.memory bytes
     → AreHeldBeside view (flat_of new).now.memory from to bytes
 held_beside (Changes at size) now new i count from to line bytes untold turned going spared held =
     let next = turn_next now new count line (single at size i count untold) turned going in

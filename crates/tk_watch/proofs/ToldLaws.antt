@@ -34,15 +34,18 @@ told_silent view runs k m is none same =
     ∙ append-nil (told_text view runs k)
 
 -- only changes look at the state before, and they look at each
-pub beside_same : (view : View) (step : ℕ) (lines : List Line) (s t after : FlatState) (i at : ℕ) → ((k : ℕ) → i < k → k < i + 1 + at → IsUntold view k) → (at ≡ 0 → s ≡ t) → step_text view step lines s after ≡ step_text view step lines t after
+pub beside_same : (view : View) (step : ℕ) (lines : List Line) (s t after : FlatState) (i at : ℕ) → ((k : ℕ) → i < k → k < i + 1 + at → IsUntold view k) → (at ≡ 0 → s ≡ t)
+    → step_text view step lines s after ≡ step_text view step lines t after
 beside_same (Changes a count) step lines s t after i zero untold same = ap (λ before. step_text (Changes a count) step lines before after) (same refl)
 beside_same (Changes a count) step lines s t after i (suc at) untold same = absurd (untold (i + 1) (omega arith) (omega arith))
 beside_same _ step lines s t after i at untold same = refl
 
 -- by the bytes that were held
-pub step_same : (view : View) (step : ℕ) (lines : List Line) (before after : FlatState) (bytes : List ℕ) → AreHeld view before.memory bytes → step_told view step lines before.cpu.pc bytes after ≡ step_text view step lines before after
+pub step_same : (view : View) (step : ℕ) (lines : List Line) (before after : FlatState) (bytes : List ℕ) → AreHeld view before.memory bytes
+    → step_told view step lines before.cpu.pc bytes after ≡ step_text view step lines before after
 step_same (Changes at count) step lines before after bytes held =
-    rows_same (λ i. change_text step before.cpu.pc (at + i) (slice_index bytes i) (slice_index after.memory (at + i))) (λ i. change_text step before.cpu.pc (at + i) (slice_index before.memory (at + i)) (slice_index after.memory (at + i))) count
+    rows_same (λ i. change_text step before.cpu.pc (at + i) (slice_index bytes i) (slice_index after.memory (at + i)))
+    (λ i. change_text step before.cpu.pc (at + i) (slice_index before.memory (at + i)) (slice_index after.memory (at + i))) count
     (λ i below. ap (λ v. change_text step before.cpu.pc (at + i) v (slice_index after.memory (at + i))) (held i below))
 step_same _ step lines before after bytes held = refl
 

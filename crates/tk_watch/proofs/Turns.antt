@@ -35,11 +35,13 @@ line_alone None r none = none
 line_alone (Some line) r none = ap (λ l. line ∷ l) none
 
 -- a step adds its line
-step_by : (old now new : Machine) (i : ℕ) (line : Option Line) (before after : Option (List ℕ)) → IsIn old now i before after → StepWay now new line → new.end ≡ None → (original_from old (i + 1)).lines ≡ (original_from old i).lines ++ line_before line []
+step_by : (old now new : Machine) (i : ℕ) (line : Option Line) (before after : Option (List ℕ)) → IsIn old now i before after → StepWay now new line → new.end ≡ None
+    → (original_from old (i + 1)).lines ≡ (original_from old i).lines ++ line_before line []
 step_by old now new i line before after now' (StepWay.On ready quiet steps is) going =
     let ran = now'.ran in
     let program = program_of old.kernel in
-    let on : run program (flat_of now) 1 ≡ with_line line (run program (flat_of new) 0) = run_goes program (flat_of now) (flat_of new) 0 line (inside_same old now ran.stays now'.inside) (tried_same old now _ ran.stays is) in
+    let on : run program (flat_of now) 1 ≡ with_line line (run program (flat_of new) 0) =
+    run_goes program (flat_of now) (flat_of new) 0 line (inside_same old now ran.stays now'.inside) (tried_same old now _ ran.stays is) in
     let same : i + 1 ≡ 1 + i = omega arith in
     ap (λ k. (original_from old k).lines) same
     ∙ ap (λ (r : Run). r.lines) (ran.run 1)
@@ -48,7 +50,8 @@ step_by old now new i line before after now' (StepWay.On ready quiet steps is) g
     ∙ ap (λ l. l ++ line_before line []) (sym (lines_so_far old now i before after ran))
 step_by old now new i line before after now' (StepWay.Stopped stop over kept none steps is same) going = absurd (no_end new (ends.Stopped stop) kept going)
 
-step_lines : (old now new : Machine) (i : ℕ) (line : Option Line) (before after : Option (List ℕ)) → IsIn old now i before after → HasStepped now new line → new.end ≡ None → (original_from old (i + 1)).lines ≡ (original_from old i).lines ++ line_before line []
+step_lines : (old now new : Machine) (i : ℕ) (line : Option Line) (before after : Option (List ℕ)) → IsIn old now i before after → HasStepped now new line → new.end ≡ None
+    → (original_from old (i + 1)).lines ≡ (original_from old i).lines ++ line_before line []
 step_lines old now new i line before after now' step going = step_by old now new i line before after now' step.way going
 
 -- in the midst of a turn of so many steps, since i of which nothing was told
@@ -60,7 +63,8 @@ pub record IsSilent (view : View) (old now : Machine) (i j : ℕ) (text : List �
 abbrev pub AreUntold : View → (i count : ℕ) → Type 0
 AreUntold view i count = (step : ℕ) → i < step → step < i + count → IsUntold view step
 
-silent_on : (view : View) (n : ℕ) (old now last : Machine) (i count : ℕ) (text : List ℕ) → n < count → AreUntold view i count → Silently n now last → IsIn old now i (Some []) (Some text) → IsSilent view old last i (i + n) text
+silent_on : (view : View) (n : ℕ) (old now last : Machine) (i count : ℕ) (text : List ℕ) → n < count → AreUntold view i count → Silently n now last → IsIn old now i (Some []) (Some text)
+    → IsSilent view old last i (i + n) text
 silent_on view zero old now last i count text fewer untold same now' =
     let none : i ≡ i + 0 = omega arith in
     subst (λ k. IsSilent view old last i k text) none (record { inside = subst (λ m. IsIn old m i (Some []) (Some text)) same now'; told = refl })
@@ -86,7 +90,8 @@ pub record IsLast (view : View) (old now new : Machine) (i count : ℕ) (line : 
   pub silent : IsSilent view old last i (i + at) text
   pub step : HasStepped last new line
 
-pub last_of : (view : View) (old now mid new : Machine) (i count : ℕ) (line : Option Line) (text : List ℕ) → AreUntold view i count → IsBetween old now i (Some []) (Some text) → HasEntered now mid None → HasDone mid new count line → IsLast view old now new i count line text
+pub last_of : (view : View) (old now mid new : Machine) (i count : ℕ) (line : Option Line) (text : List ℕ) → AreUntold view i count → IsBetween old now i (Some []) (Some text)
+    → HasEntered now mid None → HasDone mid new count line → IsLast view old now new i count line text
 last_of view old now mid new i count line text untold between entered done = record {
   last = done.last;
   at = done.earlier;
@@ -95,7 +100,8 @@ last_of view old now mid new i count line text untold between entered done = rec
   step = done.step;
 }
 
-pub last_taken : (view : View) (old now new : Machine) (i count : ℕ) (text : List ℕ) → IsIn old now i (Some []) (Some text) → HasStepped now new None → count ≡ 1 → IsLast view old now new i count None text
+pub last_taken : (view : View) (old now new : Machine) (i count : ℕ) (text : List ℕ) → IsIn old now i (Some []) (Some text) → HasStepped now new None → count ≡ 1
+    → IsLast view old now new i count None text
 last_taken view old now new i count text now' step one =
     let none : i ≡ i + 0 = omega arith in
     record { last = now; at = 0; before = omega (arith, one); silent = subst (λ k. IsSilent view old now i k text) none (record { inside = now'; told = refl }); step = step }
@@ -105,42 +111,6 @@ pub record HasGone (view : View) (old now new : Machine) (i j : ℕ) (line : Opt
   pub text : List ℕ
   pub between : IsBetween old new j (Some []) (Some text)
   pub told : told_text view (original_from old) j ≡ told_text view (original_from old) i ++ step_text view j (line_before line []) (flat_of now).now (flat_of new).now
-
--- the step before the last of a turn
-told_behind : (view : View) (old now new : Machine) (i count at : ℕ) (line : Option Line) (state : Moment) → AreUntold view i count → count ≡ 1 + at → (original_from old i).state ≡ flat_of now → (original_from old (i + at)).state ≡ state
-    → step_text view (i + count) (line_before line []) state.now (flat_of new).now ≡ step_text view (i + count) (line_before line []) (flat_of now).now (flat_of new).now
-told_behind view old now new i count at line state untold before was is =
-    beside_same view (i + count) (line_before line []) state.now (flat_of now).now (flat_of new).now i at (λ step from to. untold step from (omega (arith, before, to)))
-    (λ none. ap (λ (m : Moment). m.now) (sym is ∙ ap (λ k. (original_from old k).state) (let same : i + at ≡ i = omega (arith, none) in same) ∙ was))
-
-gone_by : (view : View) (old now new : Machine) (i count : ℕ) (line : Option Line) (text : List ℕ) → AreUntold view i count → IsBetween old now i (Some []) (Some text) → IsLast view old now new i count line text → new.end ≡ None → HasGone view old now new i (i + count) line
-gone_by view old now new i count line text untold between last going =
-    let runs = original_from old in
-    let j = i + last.at in
-    let next : i + count ≡ suc j = omega (arith, last.before) in
-    let one : j + 1 ≡ i + count = omega (arith, last.before) in
-    let more = lines_text (line_before line []) in
-    let behind : IsBetween old new (i + count) (Some []) (Some (text ++ more)) =
-    subst (λ k. IsBetween old new k (Some []) (Some (text ++ more))) one (between_on old last.last new j line (Some []) (Some text) (Some (text ++ more)) last.silent.inside last.step refl going) in
-    let grows : (runs (i + count)).lines ≡ (runs j).lines ++ line_before line [] =
-    subst (λ k. (runs k).lines ≡ (runs j).lines ++ line_before line []) one (step_lines old last.last new j line (Some []) (Some text) last.silent.inside last.step going) in
-    record {
-      text = text ++ more;
-      between = behind;
-      told = told_on view runs j (i + count) (line_before line []) (flat_of new) next grows (left old new (i + count) (Some []) (Some (text ++ more)) behind.ran)
-          ∙ ap (λ t. told_text view runs j ++ t) (told_behind view old now new i count last.at line (runs j).state untold last.before (left old now i (Some []) (Some text) between.ran) refl)
-          ∙ ap (λ t. t ++ step_text view (i + count) (line_before line []) (flat_of now).now (flat_of new).now) last.silent.told;
-    }
-
-pub refused_end : (now new : Machine) (end : End) → Entering now new (Some end) → new.end ≡ Some end
-refused_end now new end (Entering.Out over kept outside) = kept
-refused_end now new end (Entering.Failed op over kept inside fault) = kept
-
-pub gone : (view : View) (old now new : Machine) (i count : ℕ) (line : Option Line) (text : List ℕ) → AreUntold view i count → IsBetween old now i (Some []) (Some text) → HasTurned now new count line → new.end ≡ None → HasGone view old now new i (i + count) line
-gone view old now new i count line text untold between (HasTurned.Interrupted wanted step one none) going =
-    subst (λ l. HasGone view old now new i (i + count) l) (sym none) (gone_by view old now new i count None text untold between (last_taken view old now new i count text (take_in old now i (Some []) (Some text) between wanted) step one) going)
-gone view old now new i count line text untold between (HasTurned.Refused end entered zeros none) going = absurd (no_end new end (refused_end now new end entered.way) going)
-gone view old now new i count line text untold between (HasTurned.Stepped mid entered done) going = gone_by view old now new i count line text untold between (last_of view old now mid new i count line text untold between entered done) going
 
 -- Behind a turn in which the program ended, with nothing told more.
 pub record HasEnded (view : View) (old new : Machine) (i count n : ℕ) (end : End) : Type 0 where
@@ -152,44 +122,89 @@ pub record HasEnded (view : View) (old new : Machine) (i count n : ℕ) (end : E
   pub steps : new.steps ≡ old.steps + done
   pub told : told_text view (original_from old) done ≡ told_text view (original_from old) i
 
-stopped_by : (view : View) (old now new : Machine) (i count n : ℕ) (line : Option Line) (end : End) (text : List ℕ) → old.end ≡ None → old.broken ≡ false → i + count ≤ n → (last : IsLast view old now new i count line text) → StepWay last.last new line → new.end ≡ Some end → HasEnded view old new i count n end
-stopped_by view old now new i count n line end text going whole within last (StepWay.On ready quiet steps is) ended = absurd (no_end new end ended ready.going)
-stopped_by view old now new i count n line end text going whole within last (StepWay.Stopped stop over kept none steps is same) ended =
-    let more = lines_text (line_before line []) in
-    record {
-      text = text ++ more;
-      advanced = advanced_stop old last.last new (i + last.at) n line end (Some []) (Some text) (Some (text ++ more)) going whole (omega (arith, last.before, within)) last.silent.inside last.step last.step.way refl ended;
-      done = i + last.at;
-      most = omega (arith, last.before);
-      one = λ few. omega (arith, last.before, few);
-      steps = steps ∙ last.silent.inside.ran.steps;
-      told = last.silent.told;
-    }
+pub refused_end : (now new : Machine) (end : End) → Entering now new (Some end) → new.end ≡ Some end
+refused_end now new end (Entering.Out over kept outside) = kept
+refused_end now new end (Entering.Failed op over kept inside fault) = kept
 
-refused_by : (view : View) (old now new : Machine) (i count n : ℕ) (end other : End) (text : List ℕ) → old.end ≡ None → old.broken ≡ false → i < n → IsBetween old now i (Some []) (Some text) → HasEntered now new (Some other) → new.end ≡ Some end → HasEnded view old new i count n end
-refused_by view old now new i count n end other text going whole below between entered ended =
-    let same : Some other ≡ Some end = sym (refused_end now new other entered.way) ∙ ended in
-    record {
-      text = text;
-      advanced = advanced_enter old now new i n (Some []) (Some text) (Some other) end going whole below between entered entered.way same;
-      done = i;
-      most = omega arith;
-      one = λ few. refl;
-      steps = entered.steps ∙ between.ran.steps;
-      told = refl;
-    }
+module _ (view : View) (old now new : Machine) (i count : ℕ) where
+  -- the step before the last of a turn
+  told_behind : (at : ℕ) (line : Option Line) (state : Moment) → AreUntold view i count → count ≡ 1 + at → (original_from old i).state ≡ flat_of now → (original_from old (i + at)).state ≡ state
+      → step_text view (i + count) (line_before line []) state.now (flat_of new).now ≡ step_text view (i + count) (line_before line []) (flat_of now).now (flat_of new).now
+  told_behind at line state untold before was is =
+      beside_same view (i + count) (line_before line []) state.now (flat_of now).now (flat_of new).now i at (λ step from to. untold step from (omega (arith, before, to)))
+      (λ none. ap (λ (m : Moment). m.now) (sym is ∙ ap (λ k. (original_from old k).state) (let same : i + at ≡ i = omega (arith, none) in same) ∙ was))
 
-pub ended : (view : View) (old now new : Machine) (i count n : ℕ) (line : Option Line) (end : End) (text : List ℕ) → AreUntold view i count → old.end ≡ None → old.broken ≡ false → i < n → i + count ≤ n → IsBetween old now i (Some []) (Some text) → HasTurned now new count line → new.end ≡ Some end → HasEnded view old new i count n end
-ended view old now new i count n line end text untold going whole below within between (HasTurned.Interrupted wanted step one none) over =
-    let last = last_taken view old now new i count text (take_in old now i (Some []) (Some text) between wanted) step one in
-    stopped_by view old now new i count n None end text going whole within last last.step.way over
-ended view old now new i count n line end text untold going whole below within between (HasTurned.Refused other entered zeros none) over = refused_by view old now new i count n end other text going whole below between entered over
-ended view old now new i count n line end text untold going whole below within between (HasTurned.Stepped mid entered done) over =
-    let last = last_of view old now mid new i count line text untold between entered done in
-    stopped_by view old now new i count n line end text going whole within last last.step.way over
+  gone_by : (line : Option Line) (text : List ℕ) → AreUntold view i count → IsBetween old now i (Some []) (Some text) → IsLast view old now new i count line text → new.end ≡ None
+      → HasGone view old now new i (i + count) line
+  gone_by line text untold between last going =
+      let runs = original_from old in
+      let j = i + last.at in
+      let next : i + count ≡ suc j = omega (arith, last.before) in
+      let one : j + 1 ≡ i + count = omega (arith, last.before) in
+      let more = lines_text (line_before line []) in
+      let behind : IsBetween old new (i + count) (Some []) (Some (text ++ more)) =
+      subst (λ k. IsBetween old new k (Some []) (Some (text ++ more))) one (between_on old last.last new j line (Some []) (Some text) (Some (text ++ more)) last.silent.inside last.step refl going) in
+      let grows : (runs (i + count)).lines ≡ (runs j).lines ++ line_before line [] =
+      subst (λ k. (runs k).lines ≡ (runs j).lines ++ line_before line []) one (step_lines old last.last new j line (Some []) (Some text) last.silent.inside last.step going) in
+      record {
+        text = text ++ more;
+        between = behind;
+        told = told_on view runs j (i + count) (line_before line []) (flat_of new) next grows (left old new (i + count) (Some []) (Some (text ++ more)) behind.ran)
+            ∙ ap (λ t. told_text view runs j ++ t) (told_behind last.at line (runs j).state untold last.before (left old now i (Some []) (Some text) between.ran) refl)
+            ∙ ap (λ t. t ++ step_text view (i + count) (line_before line []) (flat_of now).now (flat_of new).now) last.silent.told;
+      }
+
+  pub gone : (line : Option Line) (text : List ℕ) → AreUntold view i count → IsBetween old now i (Some []) (Some text) → HasTurned now new count line → new.end ≡ None
+      → HasGone view old now new i (i + count) line
+  gone line text untold between (HasTurned.Interrupted wanted step one none) going =
+      subst (λ l. HasGone view old now new i (i + count) l) (sym none)
+      (gone_by None text untold between (last_taken view old now new i count text (take_in old now i (Some []) (Some text) between wanted) step one) going)
+  gone line text untold between (HasTurned.Refused end entered zeros none) going = absurd (no_end new end (refused_end now new end entered.way) going)
+  gone line text untold between (HasTurned.Stepped mid entered done) going = gone_by line text untold between (last_of view old now mid new i count line text untold between entered done) going
+
+  stopped_by : (n : ℕ) (line : Option Line) (end : End) (text : List ℕ) → old.end ≡ None → old.broken ≡ false → i + count ≤ n → (last : IsLast view old now new i count line text)
+      → StepWay last.last new line → new.end ≡ Some end → HasEnded view old new i count n end
+  stopped_by n line end text going whole within last (StepWay.On ready quiet steps is) ended = absurd (no_end new end ended ready.going)
+  stopped_by n line end text going whole within last (StepWay.Stopped stop over kept none steps is same) ended =
+      let more = lines_text (line_before line []) in
+      record {
+        text = text ++ more;
+        advanced = advanced_stop old last.last new (i + last.at) n line end (Some []) (Some text) (Some (text ++ more)) going whole
+            (omega (arith, last.before, within)) last.silent.inside last.step last.step.way refl ended;
+        done = i + last.at;
+        most = omega (arith, last.before);
+        one = λ few. omega (arith, last.before, few);
+        steps = steps ∙ last.silent.inside.ran.steps;
+        told = last.silent.told;
+      }
+
+  refused_by : (n : ℕ) (end other : End) (text : List ℕ) → old.end ≡ None → old.broken ≡ false → i < n → IsBetween old now i (Some []) (Some text) → HasEntered now new (Some other)
+      → new.end ≡ Some end → HasEnded view old new i count n end
+  refused_by n end other text going whole below between entered ended =
+      let same : Some other ≡ Some end = sym (refused_end now new other entered.way) ∙ ended in
+      record {
+        text = text;
+        advanced = advanced_enter old now new i n (Some []) (Some text) (Some other) end going whole below between entered entered.way same;
+        done = i;
+        most = omega arith;
+        one = λ few. refl;
+        steps = entered.steps ∙ between.ran.steps;
+        told = refl;
+      }
+
+  pub ended : (n : ℕ) (line : Option Line) (end : End) (text : List ℕ) → AreUntold view i count → old.end ≡ None → old.broken ≡ false → i < n → i + count ≤ n
+      → IsBetween old now i (Some []) (Some text) → HasTurned now new count line → new.end ≡ Some end → HasEnded view old new i count n end
+  ended n line end text untold going whole below within between (HasTurned.Interrupted wanted step one none) over =
+      let last = last_taken view old now new i count text (take_in old now i (Some []) (Some text) between wanted) step one in
+      stopped_by n None end text going whole within last last.step.way over
+  ended n line end text untold going whole below within between (HasTurned.Refused other entered zeros none) over = refused_by n end other text going whole below between entered over
+  ended n line end text untold going whole below within between (HasTurned.Stepped mid entered done) over =
+      let last = last_of view old now mid new i count line text untold between entered done in
+      stopped_by n line end text going whole within last last.step.way over
 
 -- Where all steps are done.
-pub bound : (view : View) (old now new : Machine) (n : ℕ) (end : End) (text : List ℕ) → old.end ≡ None → old.broken ≡ false → IsBetween old now n (Some []) (Some text) → HasBound now new end → HasEnded view old new n 0 n end
+pub bound : (view : View) (old now new : Machine) (n : ℕ) (end : End) (text : List ℕ) → old.end ≡ None → old.broken ≡ false → IsBetween old now n (Some []) (Some text) → HasBound now new end
+    → HasEnded view old new n 0 n end
 bound view old now new n end text going whole between is = record {
   text = text;
   advanced = advanced_bound old now new n (Some []) (Some text) end going whole between is;

@@ -5,7 +5,8 @@ use Rattle.tk_watch.specs.Rows.{rows}
 
 -- the step of this number, which began at this pc, changed a byte
 unfoldable pub change_line : (step pc a before now : ℕ) → List ℕ
-change_line step pc a before now = codes "step " ++ decimal step ++ codes " " ++ address_text pc ++ codes " " ++ address_text a ++ codes " " ++ byte_text before ++ codes " " ++ byte_text now ++ codes "\n"
+change_line step pc a before now = codes "step " ++ decimal step ++ codes " " ++ address_text pc ++ codes " " ++ address_text a ++ codes " " ++ byte_text before ++ codes " " ++ byte_text now
+    ++ codes "\n"
 
 -- .. which is told where it isn't what it was
 abbrev pub change_text : (step pc a before now : ℕ) → List ℕ

@@ -39,7 +39,8 @@ IsWithin from to i = (from ≤ i) × (i < to)
 
 -- the next step of the original program, where it is no interrupt, leaves the byte at an address
 abbrev pub Spares : Machine → ℕ → Type 0
-Spares m a = is_taken (flat_of m) ≡ false → (line : Option Line) (next : Moment) → next_of (program_of m.kernel) (flat_of m) ≡ On line next → slice_index next.now.memory a ≡ slice_index (flat_of m).now.memory a
+Spares m a = is_taken (flat_of m) ≡ false → (line : Option Line) (next : Moment) → next_of (program_of m.kernel) (flat_of m) ≡ On line next
+    → slice_index next.now.memory a ≡ slice_index (flat_of m).now.memory a
 
 -- .. each of the watched bytes but those from one on in front of another, which are all where the step is an interrupt
 abbrev pub IsSpared : View → Machine → (from to : ℕ) → Type 0

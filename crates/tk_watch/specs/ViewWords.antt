@@ -1,7 +1,7 @@
 -- Which words ask for a view that has words of its own.
-use Rattle.std.specs.Prelude.{⊤, ◌≡◌, ◌⊎◌, ℕ, ◌+◌, ◌≤◌, List, [], ◌∷◌, ◌++◌, length, codes}
+use Rattle.std.specs.Prelude.{⊤, ◌≡◌, ◌⊎◌, ℕ, ◌+◌, ◌≤◌, List, [], ◌∷◌, ◌++◌, length, codes, Some}
 use Rattle.std.specs.Str.Parse.{digits_value, AllDigits}
-use Rattle.input_script.specs.Grammar.{IsNumber}
+use Rattle.input_script.specs.Grammar.{number_of}
 use Rattle.tk_watch.specs.declared.view.View.{View}
 use Rattle.tk_watch.specs.declared.view.View.TheVariants.{Trace, Visits, Changes}
 
@@ -26,7 +26,8 @@ BeginWith (word ∷ rest) (a ∷ more) behind = IsAddress word a × BeginWith re
 
 -- the words behind `trace`, `visits` and `changes`
 abbrev pub AskForTrace : List (List ℕ) → (behind : List (List ℕ)) → View → Type 0
-AskForTrace (from ∷ rows ∷ rest) behind view = (first : ℕ) × (count : ℕ) × IsNumber from first × IsNumber rows count × (count ≤ 65536) × (view ≡ Trace first count) × (behind ≡ rest)
+AskForTrace (from ∷ rows ∷ rest) behind view =
+    (first : ℕ) × (count : ℕ) × (number_of from ≡ Some first) × (number_of rows ≡ Some count) × (count ≤ 65536) × (view ≡ Trace first count) × (behind ≡ rest)
 AskForTrace _ behind view = ⊥
 
 abbrev pub AskForVisits : List (List ℕ) → (behind : List (List ℕ)) → View → Type 0
@@ -34,9 +35,10 @@ AskForVisits words behind view = (places : List ℕ) × BeginWith words places b
 
 abbrev pub AskForChanges : List (List ℕ) → (behind : List (List ℕ)) → View → Type 0
 AskForChanges (first ∷ size ∷ rest) behind view =
-    (at : ℕ) × (count : ℕ) × IsAddress first at × IsNumber size count × (1 ≤ count) × (count ≤ 64) × (at + count ≤ 65536) × (view ≡ Changes at count) × (behind ≡ rest)
+    (at : ℕ) × (count : ℕ) × IsAddress first at × (number_of size ≡ Some count) × (1 ≤ count) × (count ≤ 64) × (at + count ≤ 65536) × (view ≡ Changes at count) × (behind ≡ rest)
 AskForChanges _ behind view = ⊥
 
 -- a word, and some of those behind it
 abbrev pub AskWithWords : (word : List ℕ) → (rest behind : List (List ℕ)) → View → Type 0
-AskWithWords word rest behind view = ((word ≡ codes "visits") × AskForVisits rest behind view) ⊎ (((word ≡ codes "changes") × AskForChanges rest behind view) ⊎ ((word ≡ codes "trace") × AskForTrace rest behind view))
+AskWithWords word rest behind view = ((word ≡ codes "visits") × AskForVisits rest behind view)
+    ⊎ (((word ≡ codes "changes") × AskForChanges rest behind view) ⊎ ((word ≡ codes "trace") × AskForTrace rest behind view))

@@ -57,6 +57,8 @@ pub record ShowsCut (view : View) (request : Request) (before now : Stream) (tol
 -- A machine runs as that of `run` does (`Runs`), but its own lines go nowhere. What the view shows of it is said, with the stop
 -- line and the status of `run`.
 pub data Shows (view : View) (request : Request) (before now : Stream) (told : Status) : Type 0 where
-  Ended : (m : Machine) (own : Status) → AreUnlisted request m → RunsToTheEnd request (first_start request) [] silent silent own m → Says (status_of_end (whole_run request).end) (ended_text view request m.kernel.mote.flash.ops) before now told → Shows view request before now told
-  Failed : (m : Machine) (own : Status) → (run : RunsIntoAFault request silent silent own m) → Says status.FlashFault (failed_text view request run.op m.steps) before now told → Shows view request before now told
+  Ended : (m : Machine) (own : Status) → AreUnlisted request m → RunsToTheEnd request (first_start request) [] silent silent own m
+      → Says (status_of_end (whole_run request).end) (ended_text view request m.kernel.mote.flash.ops) before now told → Shows view request before now told
+  Failed : (m : Machine) (own : Status) → (run : RunsIntoAFault request silent silent own m) → Says status.FlashFault (failed_text view request run.op m.steps) before now told
+      → Shows view request before now told
   Cut : ShowsCut view request before now told → Shows view request before now told

@@ -80,7 +80,8 @@ end_text view slots events times end m = left_text view slots events times m.ker
 -- before that.
 pub data HasShown (view : View) (slots events : ℕ) (old new : Machine) (n : ℕ) (before now : Stream) (told : Status) : Type 0 where
   Whole : (text : List ℕ) (end : End) → HasAdvanced old new n (Some []) (Some text) (Ok end)
-      → Says (status_of_stop end) (told_text view (original_from old) new.steps ++ end_text view slots events (λ a. times_at (original_from old) a new.steps) end new) before now told → HasShown view slots events old new n before now told
+      → Says (status_of_stop end) (told_text view (original_from old) new.steps ++ end_text view slots events (λ a. times_at (original_from old) a new.steps) end new) before now told
+      → HasShown view slots events old new n before now told
   Cut : told ≡ status.WriteFault → Rose before.faults now.faults → IsCut view old n before.told now.told → HasShown view slots events old new n before now told
 
 -- a machine that has done nothing yet, and no step was counted

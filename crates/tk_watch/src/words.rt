@@ -1,6 +1,6 @@
 //! The words that ask for a view.
 ghost use Rattle.std.specs.Prelude.{◌≡◌, ◌≢◌, ◌+◌, ◌<◌, ◌≤◌, ◌&&◌, ◌∷◌, ◌++◌, ℕ, List, IfSome, MatchOption, length, map, nat_le, string_bytes};
-ghost use Rattle.input_script.specs.Grammar.{IsNumber};
+ghost use Rattle.input_script.specs.Grammar.{number_of};
 ghost use Rattle.tk_watch.specs.Kept.{IsPossible};
 ghost use Rattle.tk_watch.specs.ViewWords.{AskForChanges, AskForTrace, AskForVisits, AskWithWords, IsAddress};
 ghost use Rattle.tk_watch.specs.Words.{AskForView, view_in, views};
@@ -172,14 +172,14 @@ fn after<'a>(text: &'a [u8], front: &[u8]) -> Option<&'a [u8]>
 
 /// The number that a word writes.
 fn number(word: &str) -> Option<u64>
-    ensures cases { MatchOption result ((n : ℕ) → ¬ IsNumber word.now n) (IsNumber word.now) }
+    ensures value { result ≡ number_of word.now }
 {
     number_in(word.as_bytes())
 }
 
 /// The number that 1 to 10 decimal digits write.
 fn number_in(text: &[u8]) -> Option<u64>
-    ensures cases { MatchOption result ((n : ℕ) → ¬ IsNumber text.now n) (IsNumber text.now) }
+    ensures value { result ≡ number_of text.now }
 {
     if text.is_empty() || text.len() > 10 {
         return None;

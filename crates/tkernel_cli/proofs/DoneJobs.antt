@@ -40,6 +40,7 @@ pub or_wanting : {A B C : Type 0} → B → A ⊎ C → A ⊎ (B × C)
 or_wanting reason done = elim done [ inl whole ↦ inl whole | inr none ↦ inr (reason, none) ]
 
 -- a text that was said, with no machine
-pub said_alone : (own said told : Status) (put text : List ℕ) (before now : Stream) (held : Option Machine) → told ≡ said → held ≡ None → put ≡ text → Says own put before now said → Says own text before now told × (held ≡ None)
+pub said_alone : (own said told : Status) (put text : List ℕ) (before now : Stream) (held : Option Machine) → told ≡ said → held ≡ None → put ≡ text → Says own put before now said
+    → Says own text before now told × (held ≡ None)
 said_alone own said told put text before now held status nothing line done =
     (subst (λ s. Says own text before now s) (sym status) (subst (λ t. Says own t before now said) line done), nothing)

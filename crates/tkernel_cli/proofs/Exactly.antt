@@ -19,7 +19,8 @@ answer_done words source source' sink sink' job exit asked (inl done) = record {
 answer_done words source source' sink sink' job exit asked (inr none) = record { job = no_memory; asked = memory_asked words source source' job none.0 asked; done = none.1 }
 
 -- what is asked for is what is warranted, but for want of memory, which the usage line doesn't want
-pub answer_is_exact : (words : List (List ℕ)) (source source' : Input) (sink sink' : Stream) (exit : Exit) → IsAnswer words source source' sink sink' exit → IsExact words source source' sink sink' exit
+pub answer_is_exact : (words : List (List ℕ)) (source source' : Input) (sink sink' : Stream) (exit : Exit) → IsAnswer words source source' sink sink' exit
+    → IsExact words source source' sink sink' exit
 answer_is_exact words source source' sink sink' exit answer = record {
   done = λ whole warranted. elim (why words source source' answer.job whole answer.asked warranted) [
     | Wanting is ↦ inl (subst (λ j. Does j sink sink' exit) is answer.done)

@@ -18,7 +18,8 @@ use Rattle.program_steps.specs.Machines.{Machine}
 use Rattle.program_steps.specs.Ready.{HasFault, IsInOrder}
 
 -- a page of the pool that is rewritten leaves the pages outside it
-around_unset : (layout : Layout) (image words new : List ℕ) (page : ℕ) → length new ≡ page_words → page_words * page + page_words ≤ length words → IsPool layout page → HaveFormsAround layout image (set_page words page new) → HaveFormsAround layout image words
+around_unset : (layout : Layout) (image words new : List ℕ) (page : ℕ) → length new ≡ page_words → page_words * page + page_words ≤ length words → IsPool layout page
+    → HaveFormsAround layout image (set_page words page new) → HaveFormsAround layout image words
 around_unset layout image words new page long inside pool around other low out =
     let P : List ℕ → Type 0 = λ own. HasForm layout image other own in
     let same = pages.page_other words new page other long inside (λ is. out (let Q : ℕ → Type 0 = λ p. IsPool layout p in subst Q (sym is) pool)) in
@@ -27,10 +28,12 @@ around_unset layout image words new page long inside pool around other low out =
 around_code : (layout : Layout) (image words : List ℕ) → IsRight layout → IsFaithful layout image words → HaveFormsAround layout image words
 around_code layout image words right faithful = forms_around layout image words (code_checked layout image words right faithful).forms
 
-around_mended : (layout : Layout) (image words : List ℕ) (torn : Option Torn) → IsRight layout → length words ≡ 65536 → IfSome torn (IsTorn layout words) → IsFaithful layout image (with_torn words torn) → HaveFormsAround layout image words
+around_mended : (layout : Layout) (image words : List ℕ) (torn : Option Torn) → IsRight layout → length words ≡ 65536 → IfSome torn (IsTorn layout words)
+    → IsFaithful layout image (with_torn words torn) → HaveFormsAround layout image words
 around_mended layout image words None right whole is faithful = around_code layout image words right faithful
 around_mended layout image words (Some torn) right whole is faithful =
-    around_unset layout image words torn.words torn.page is.size (omega (arith, whole, is.pool.to, right.pool_below_kernel)) is.pool (around_code layout image (set_page words torn.page torn.words) right faithful)
+    around_unset layout image words torn.words torn.page is.size (omega (arith, whole, is.pool.to, right.pool_below_kernel)) is.pool
+    (around_code layout image (set_page words torn.page torn.words) right faithful)
 
 torn_alone : (torn : Option Torn) (layout : Layout) (words : List ℕ) (m : Machine) → IfSome torn (λ t. IsTorn layout words t × HasFault m) → IfSome torn (IsTorn layout words)
 torn_alone None layout words m is = tt

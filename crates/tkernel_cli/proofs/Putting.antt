@@ -15,7 +15,8 @@ use Rattle.line_gathering.proofs.Gathered.{cut_less}
 pub rose_on : (before mid now : ℕ) → before ≤ mid → Rose mid now → Rose before now
 rose_on before mid now later rose = omega arith
 
-pub said_on : (own told : Status) (before mid now : Stream) (lines text : List ℕ) → Appends before.told mid.told lines → before.faults ≤ mid.faults → Says own text mid now told → Says own (lines ++ text) before now told
+pub said_on : (own told : Status) (before mid now : Stream) (lines text : List ℕ) → Appends before.told mid.told lines → before.faults ≤ mid.faults → Says own text mid now told
+    → Says own (lines ++ text) before now told
 said_on own told before mid now lines text put later said = elim said [
   | inl whole ↦ inl (whole.0, appends-both before.told mid.told now.told lines text put whole.1)
   | inr cut ↦ inr (cut.0, rose_on before.faults mid.faults now.faults later cut.1, cut_behind before.told mid.told now.told lines text put cut.2)

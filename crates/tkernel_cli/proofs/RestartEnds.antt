@@ -37,7 +37,8 @@ program_silent request ended m (Runs.Failed run) = run.follows.at.program
 program_silent request ended m (Runs.Cut run) = absurd (never_rose run.rose)
 
 -- none of its operations is to fail
-unlisted_end : (request : Request) (flash : Memory) (end : MachineEnd) (before after : Option (List ℕ)) (m : Machine) → HasWholeOver request.image flash request.script request.options.quantum request.options.swap request.options.steps before after (Ok end) m → (op : ℕ) → end ≢ ends.Flash op
+unlisted_end : (request : Request) (flash : Memory) (end : MachineEnd) (before after : Option (List ℕ)) (m : Machine)
+    → HasWholeOver request.image flash request.script request.options.quantum request.options.swap request.options.steps before after (Ok end) m → (op : ℕ) → end ≢ ends.Flash op
 unlisted_end request flash ends.Spent before after m run op is = cc
 unlisted_end request flash (ends.Stopped stop) before after m run op is = cc
 unlisted_end request flash (ends.Wild t) before after m run op is = cc
@@ -52,18 +53,23 @@ pub over_answered : (request : Request) (flash : Memory) (line : List ℕ) (befo
     → RunsOver request flash line before now told m
 over_answered request flash line before first mid now told result end m faithful kept bound put later advanced is cause said =
     let Run : Result MachineEnd Failed → Type 0 = λ r. HasWholeOver request.image flash request.script request.options.quantum request.options.swap request.options.steps first.told mid.told r m in
-    let run : Run (Ok end) = subst Run is (run_over request.image flash request.script request.options.quantum request.options.swap request.options.steps first.told mid.told result m faithful kept (omega arith) advanced) in
-    RunsOver.Ended (ended_to request (second_start request flash) [] line before first mid now told end m refl refl put later run (unlisted_end request flash end first.told mid.told m run) cause.later said)
+    let run : Run (Ok end) =
+    subst Run is (run_over request.image flash request.script request.options.quantum request.options.swap request.options.steps first.told mid.told result m faithful kept
+    (omega arith) advanced) in
+    RunsOver.Ended (ended_to request (second_start request flash) [] line before first mid now told end m refl refl put later run
+    (unlisted_end request flash end first.told mid.told m run) cause.later said)
 
 pub over_cut : (request : Request) (flash : Memory) (line : List ℕ) (before first now : Stream) (result : Result MachineEnd Failed) (failed : Failed) (m : Machine)
     → IsFaithful (layout_of (length request.image)) request.image flash.words → IsKept (second_start request flash) → request.options.steps ≤ 10 ^ 9
     → Appends before.told first.told line → before.faults ≤ first.faults
-    → HasAdvanced (second_start request flash) m request.options.steps first.told now.told result → result ≡ Err failed → HasCause first.faults now.faults result → BeginInTurn request m first.told now.told
+    → HasAdvanced (second_start request flash) m request.options.steps first.told now.told result → result ≡ Err failed → HasCause first.faults now.faults result
+    → BeginInTurn request m first.told now.told
     → RunsOver request flash line before now status.WriteFault m
 over_cut request flash line before first now result failed m faithful kept bound put later advanced is cause turns =
     let run = run_over request.image flash request.script request.options.quantum request.options.swap request.options.steps first.told now.told result m faithful kept (omega arith) advanced in
     RunsOver.Cut (until_cut request (second_start request flash) [] line before first now failed m refl refl put later
-    (subst (λ r. HasWholeOver request.image flash request.script request.options.quantum request.options.swap request.options.steps first.told now.told r m) is run) (err_rose result failed first.faults now.faults is cause.failed) turns)
+    (subst (λ r. HasWholeOver request.image flash request.script request.options.quantum request.options.swap request.options.steps first.told now.told r m) is run)
+    (err_rose result failed first.faults now.faults is cause.failed) turns)
 
 pub held_silent : (request : Request) (ended : Status) (m : Machine) → Runs request silent silent ended m → image_held m.kernel ≡ request.image
 held_silent request ended m runs = ap (λ (p : Program). p.image) (program_silent request ended m runs)

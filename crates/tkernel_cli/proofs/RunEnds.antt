@@ -35,7 +35,8 @@ last_lines end m steps crossings quantum s c q =
     ∙ ap₂ (λ x y. end_line end steps (x / y) ++ count_line_of m) c q
 
 -- what is said, as the text of the run
-pub said_run : (request : Request) (end : MachineEnd) (r : Run) (own told : Status) (before mid now : Stream) (m : Machine) → m.steps ≡ r.state.now.steps → m.crossings ≡ r.state.now.crossings → m.kernel.quantum ≡ request.options.quantum
+pub said_run : (request : Request) (end : MachineEnd) (r : Run) (own told : Status) (before mid now : Stream) (m : Machine) → m.steps ≡ r.state.now.steps → m.crossings ≡ r.state.now.crossings
+    → m.kernel.quantum ≡ request.options.quantum
     → Appends before.told mid.told (lines_text r.lines) → before.faults ≤ mid.faults
     → Says own (last_text end m) mid now told
     → Says own (run_text r (end_line end r.state.now.steps (checkpoints_of request r)) m) before now told
@@ -51,13 +52,15 @@ keeps_end Spent end m same kept = kept
 keeps_end _ end m same kept = (end, kept, same)
 
 -- a machine that runs alone has no more pages than one for each step, and one, beside those that it began with
-follows_by : (request : Request) (start : Machine) (n : ℕ) (m : Machine) → start.began ≡ start.pages → start.others ≡ 0 → IsSound m → IsAt start (own_program request) (original_of request) n m → Follows request start n m
+follows_by : (request : Request) (start : Machine) (n : ℕ) (m : Machine) → start.began ≡ start.pages → start.others ≡ 0 → IsSound m → IsAt start (own_program request) (original_of request) n m
+    → Follows request start n m
 follows_by request start n m first alone sound at =
     let most = sound.bounded.pages in
     record { at = at; sound = sound; longest = sound.bounded.moves.most; pages = omega (arith, most, first, alone, at.began, at.others) }
 
 -- a run to the original's end
-ended : (request : Request) (start : Machine) (failing front : List ℕ) (before first mid now : Stream) (told : Status) (end : MachineEnd) (m : Machine) → status_of_stop end ≡ status_of_end (flat_end end) → how_text end ≡ end_text (flat_end end) → start.began ≡ start.pages → start.others ≡ 0
+ended : (request : Request) (start : Machine) (failing front : List ℕ) (before first mid now : Stream) (told : Status) (end : MachineEnd) (m : Machine)
+    → status_of_stop end ≡ status_of_end (flat_end end) → how_text end ≡ end_text (flat_end end) → start.began ≡ start.pages → start.others ≡ 0
     → Appends before.told first.told front → before.faults ≤ first.faults
     → IsExactRun start (own_program request) (original_of request) failing request.options.steps first.told mid.told end m → first.faults ≤ mid.faults
     → Says (status_of_stop end) (last_text end m) mid now told
@@ -67,9 +70,11 @@ ended request start failing front before first mid now told end m status how beg
     let steps : m.steps ≡ r.state.now.steps = ap (λ s. s.now.steps) run.at.state in
     let crossings : m.crossings ≡ r.state.now.crossings = ap (λ s. s.now.crossings) run.at.state in
     let whole = said_run request end r (status_of_stop end) told first mid now m steps crossings run.at.quantum run.put later said in
-    let stop : end_line end r.state.now.steps (checkpoints_of request r) ≡ stop_text r.end r.state.now.steps (checkpoints_of request r) = line_of end (flat_end end) r.state.now.steps (checkpoints_of request r) how ∙ ap (λ e. stop_text e r.state.now.steps (checkpoints_of request r)) run.same in
+    let stop : end_line end r.state.now.steps (checkpoints_of request r) ≡ stop_text r.end r.state.now.steps (checkpoints_of request r) =
+    line_of end (flat_end end) r.state.now.steps (checkpoints_of request r) how ∙ ap (λ e. stop_text e r.state.now.steps (checkpoints_of request r)) run.same in
     let own : status_of_stop end ≡ status_of_end r.end = status ∙ ap status_of_end run.same in
-    let behind = subst (λ s. Says s (run_text r (stop_text r.end r.state.now.steps (checkpoints_of request r)) m) first now told) own (subst (λ l. Says (status_of_stop end) (run_text r l m) first now told) stop whole) in
+    let behind = subst (λ s. Says s (run_text r (stop_text r.end r.state.now.steps (checkpoints_of request r)) m) first now told) own
+    (subst (λ l. Says (status_of_stop end) (run_text r l m) first now told) stop whole) in
     record {
       said = said_on (status_of_end r.end) told before first now front _ put earlier behind;
       begun = begun_on (status_of_stop end) told before.told mid now (front ++ lines_text r.lines) _ (appends-both before.told first.told mid.told front (lines_text r.lines) put run.put) said;
@@ -109,13 +114,17 @@ failed request before mid now told op m run later said =
     })
 
 -- one that flash has not ended, whose last two lines were said, or not
-pub ended_to : (request : Request) (start : Machine) (failing front : List ℕ) (before first mid now : Stream) (told : Status) (end : MachineEnd) (m : Machine) → start.began ≡ start.pages → start.others ≡ 0 → Appends before.told first.told front → before.faults ≤ first.faults
+pub ended_to : (request : Request) (start : Machine) (failing front : List ℕ) (before first mid now : Stream) (told : Status) (end : MachineEnd) (m : Machine) → start.began ≡ start.pages
+    → start.others ≡ 0 → Appends before.told first.told front → before.faults ≤ first.faults
     → HasWholeFrom start (own_program request) (original_of request) failing request.options.steps first.told mid.told (Ok end) m → ((op : ℕ) → end ≢ ends.Flash op) → first.faults ≤ mid.faults
     → Says (status_of_stop end) (last_text end m) mid now told
     → RunsToTheEnd request start front before now told m
-ended_to request start failing front before first mid now told ends.Spent m began alone put earlier run unfailed later said = ended request start failing front before first mid now told ends.Spent m refl refl began alone put earlier run later said
-ended_to request start failing front before first mid now told (ends.Stopped stop) m began alone put earlier run unfailed later said = ended request start failing front before first mid now told (ends.Stopped stop) m refl refl began alone put earlier run later said
-ended_to request start failing front before first mid now told (ends.Wild t) m began alone put earlier run unfailed later said = ended request start failing front before first mid now told (ends.Wild t) m refl refl began alone put earlier run later said
+ended_to request start failing front before first mid now told ends.Spent m began alone put earlier run unfailed later said =
+    ended request start failing front before first mid now told ends.Spent m refl refl began alone put earlier run later said
+ended_to request start failing front before first mid now told (ends.Stopped stop) m began alone put earlier run unfailed later said =
+    ended request start failing front before first mid now told (ends.Stopped stop) m refl refl began alone put earlier run later said
+ended_to request start failing front before first mid now told (ends.Wild t) m began alone put earlier run unfailed later said =
+    ended request start failing front before first mid now told (ends.Wild t) m refl refl began alone put earlier run later said
 ended_to request start failing front before first mid now told (ends.Flash op) m began alone put earlier run unfailed later said = absurd (unfailed op refl)
 
 -- at each turn that the machine went past all lines up to there went out
@@ -123,8 +132,10 @@ abbrev pub BeginInTurn : Request → Machine → (before now : Option (List ℕ)
 BeginInTurn request m before now = (turn : ℕ) → 65536 * turn < m.steps → Begins before now (lines_text (original_of request (65536 * turn)).lines)
 
 -- a run whose line could not be put
-pub until_cut : (request : Request) (start : Machine) (failing front : List ℕ) (before first now : Stream) (failed : Failed) (m : Machine) → start.began ≡ start.pages → start.others ≡ 0 → Appends before.told first.told front → before.faults ≤ first.faults
-    → HasWholeFrom start (own_program request) (original_of request) failing request.options.steps first.told now.told (Err failed) m → Rose first.faults now.faults → BeginInTurn request m first.told now.told
+pub until_cut : (request : Request) (start : Machine) (failing front : List ℕ) (before first now : Stream) (failed : Failed) (m : Machine) → start.began ≡ start.pages → start.others ≡ 0
+    → Appends before.told first.told front → before.faults ≤ first.faults
+    → HasWholeFrom start (own_program request) (original_of request) failing request.options.steps first.told now.told (Err failed) m → Rose first.faults now.faults
+    → BeginInTurn request m first.told now.told
     → RunsUntilCut request start front before now status.WriteFault m
 until_cut request start failing front before first now failed m began alone put later run rose turns = record {
   status_is = refl;
@@ -143,33 +154,47 @@ ran_to : (request : Request) (before mid now : Stream) (told : Status) (end : Ma
     → HasWhole request.image request.script request.options.quantum request.options.swap request.options.steps before.told mid.told (Ok end) m → before.faults ≤ mid.faults
     → Says (status_of_stop end) (last_text end m) mid now told
     → Runs request before now told m
-ran_to request before mid now told ends.Spent m run later said = Runs.Ended run.unlisted (ended_to request (first_start request) request.script.failing [] before before mid now told ends.Spent m refl refl (appends-nothing before.told) (omega arith) run (λ op e. absurd (cc)) later said)
-ran_to request before mid now told (ends.Stopped stop) m run later said = Runs.Ended run.unlisted (ended_to request (first_start request) request.script.failing [] before before mid now told (ends.Stopped stop) m refl refl (appends-nothing before.told) (omega arith) run (λ op e. absurd (cc)) later said)
-ran_to request before mid now told (ends.Wild t) m run later said = Runs.Ended run.unlisted (ended_to request (first_start request) request.script.failing [] before before mid now told (ends.Wild t) m refl refl (appends-nothing before.told) (omega arith) run (λ op e. absurd (cc)) later said)
+ran_to request before mid now told ends.Spent m run later said =
+    Runs.Ended run.unlisted (ended_to request (first_start request) request.script.failing [] before before mid now told ends.Spent m refl refl (appends-nothing before.told) (omega arith) run
+    (λ op e. absurd (cc)) later said)
+ran_to request before mid now told (ends.Stopped stop) m run later said =
+    Runs.Ended run.unlisted (ended_to request (first_start request) request.script.failing [] before before mid now told (ends.Stopped stop) m refl refl (appends-nothing before.told)
+    (omega arith) run (λ op e. absurd (cc)) later said)
+ran_to request before mid now told (ends.Wild t) m run later said =
+    Runs.Ended run.unlisted (ended_to request (first_start request) request.script.failing [] before before mid now told (ends.Wild t) m refl refl (appends-nothing before.told) (omega arith) run
+    (λ op e. absurd (cc)) later said)
 ran_to request before mid now told (ends.Flash op) m run later said = failed request before mid now told op m run later said
 
 -- the last two lines were said, or the sink failed
-pub answered : (request : Request) (before mid now : Stream) (told : Status) (result : Result MachineEnd Failed) (end : MachineEnd) (m : Machine) → IsImage request.image → IsKept (booted request.image request.script request.options.quantum request.options.swap) → request.options.steps ≤ 10 ^ 9
-    → HasAdvanced (booted request.image request.script request.options.quantum request.options.swap) m request.options.steps before.told mid.told result → result ≡ Ok end → HasCause before.faults mid.faults result
+pub answered : (request : Request) (before mid now : Stream) (told : Status) (result : Result MachineEnd Failed) (end : MachineEnd) (m : Machine) → IsImage request.image
+    → IsKept (booted request.image request.script request.options.quantum request.options.swap) → request.options.steps ≤ 10 ^ 9
+    → HasAdvanced (booted request.image request.script request.options.quantum request.options.swap) m request.options.steps before.told mid.told result → result ≡ Ok end
+    → HasCause before.faults mid.faults result
     → Says (status_of_stop end) (last_text end m) mid now told
     → Runs request before now told m
 answered request before mid now told result end m image kept bound advanced is cause said =
     let run = whole_of request.image request.script request.options.quantum request.options.swap request.options.steps before.told mid.told result m image kept (omega arith) advanced in
-    ran_to request before mid now told end m (subst (λ r. HasWhole request.image request.script request.options.quantum request.options.swap request.options.steps before.told mid.told r m) is run) cause.later said
+    let whole = subst (λ r. HasWhole request.image request.script request.options.quantum request.options.swap request.options.steps before.told mid.told r m) is run in
+    ran_to request before mid now told end m whole cause.later said
 
 pub err_rose : (result : Result MachineEnd Failed) (failed : Failed) (before now : ℕ) → result ≡ Err failed → OnErr result (Rose before now) → Rose before now
 err_rose (Ok end) failed before now is rose = absurd (cc)
 err_rose (Err e) failed before now is rose = rose
 
-pub answered_cut : (request : Request) (before now : Stream) (result : Result MachineEnd Failed) (failed : Failed) (m : Machine) → IsImage request.image → IsKept (booted request.image request.script request.options.quantum request.options.swap) → request.options.steps ≤ 10 ^ 9
-    → HasAdvanced (booted request.image request.script request.options.quantum request.options.swap) m request.options.steps before.told now.told result → result ≡ Err failed → HasCause before.faults now.faults result → BeginInTurn request m before.told now.told
+pub answered_cut : (request : Request) (before now : Stream) (result : Result MachineEnd Failed) (failed : Failed) (m : Machine) → IsImage request.image
+    → IsKept (booted request.image request.script request.options.quantum request.options.swap) → request.options.steps ≤ 10 ^ 9
+    → HasAdvanced (booted request.image request.script request.options.quantum request.options.swap) m request.options.steps before.told now.told result → result ≡ Err failed
+    → HasCause before.faults now.faults result → BeginInTurn request m before.told now.told
     → Runs request before now status.WriteFault m
 answered_cut request before now result failed m image kept bound advanced is cause turns =
     let run = whole_of request.image request.script request.options.quantum request.options.swap request.options.steps before.told now.told result m image kept (omega arith) advanced in
-    Runs.Cut (until_cut request (first_start request) request.script.failing [] before before now failed m refl refl (appends-nothing before.told) (omega arith) (subst (λ r. HasWhole request.image request.script request.options.quantum request.options.swap request.options.steps before.told now.told r m) is run) (err_rose result failed before.faults now.faults is cause.failed) turns)
+    Runs.Cut (until_cut request (first_start request) request.script.failing [] before before now failed m refl refl (appends-nothing before.told) (omega arith)
+    (subst (λ r. HasWhole request.image request.script request.options.quantum request.options.swap request.options.steps before.told now.told r m) is run)
+    (err_rose result failed before.faults now.faults is cause.failed) turns)
 
 -- a run into a sink that takes everything and tells nothing
-pub ran_silently : (request : Request) (result : Result MachineEnd Failed) (m : Machine) → IsImage request.image → IsKept (booted request.image request.script request.options.quantum request.options.swap) → request.options.steps ≤ 10 ^ 9
+pub ran_silently : (request : Request) (result : Result MachineEnd Failed) (m : Machine) → IsImage request.image
+    → IsKept (booted request.image request.script request.options.quantum request.options.swap) → request.options.steps ≤ 10 ^ 9
     → HasAdvanced (booted request.image request.script request.options.quantum request.options.swap) m request.options.steps None None result → HasCause 0 0 result
     → (ended : Status) × Runs request silent silent ended m
 ran_silently request (Ok end) m image kept bound advanced cause =

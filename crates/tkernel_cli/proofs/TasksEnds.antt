@@ -50,7 +50,8 @@ started_same request [] = refl
 started_same request (first ∷ others) = refl
 
 -- so the run may begin
-pub can_run : (request : TaskRequest) (start : Tasks) → Starts request start → (start.broken ≡ false) × (start.switches ≡ 0) × ((i : ℕ) → (task : Task) → slice_get start.tasks i ≡ Some task → task.end ≡ None)
+pub can_run : (request : TaskRequest) (start : Tasks) → Starts request start
+    → (start.broken ≡ false) × (start.switches ≡ 0) × ((i : ℕ) → (task : Task) → slice_get start.tasks i ≡ Some task → task.end ≡ None)
 can_run request start starts = (
   ap (λ (t : Tasks). t.broken) starts.is ∙ started_whole request request.scripts,
   ap (λ (t : Tasks). t.switches) starts.is ∙ started_same request request.scripts,
@@ -79,13 +80,15 @@ own_alone request i may below =
     let options = request.options in
     let few : length request.scripts ≤ 4 = omega (arith, may.each_task, may.possible.1) in
     let placed : (address : ℕ) → ¬ IsMisplaced (length request.scripts) request.image address = subst (λ c. (address : ℕ) → ¬ IsMisplaced c request.image address) (sym may.each_task) may.placed in
-    let Alone : ℕ → Run = λ c. alone (at_reset_in (masked.alone (program_at (task_words c request.image) options.quantum options.swap i)) (slice_index_or request.scripts i nothing).events options.steps) in
+    let Alone : ℕ → Run = λ c. alone (at_reset_in (masked.alone (program_at (task_words c request.image) options.quantum options.swap i))
+    (slice_index_or request.scripts i nothing).events options.steps) in
     sym (own_run (length request.scripts) request.image request.scripts options.quantum options.swap options.steps i below few placed) ∙ ap Alone may.each_task
 
 same_told : (request : TaskRequest) (start last : Tasks) (told : List Told) → Starts request start → HaveRun request.options.steps start told last → told ≡ all_told request
 same_told request start last told starts run = run.tells ∙ ap (λ (s : Turns). (turns s).told) starts.in_turn
 
-each_alone : (request : TaskRequest) (start last t : Tasks) (told : List Told) → AreTasks request → Starts request start → HaveRun request.options.steps start told last → t ≡ counted last false → EachIsAlone request t
+each_alone : (request : TaskRequest) (start last t : Tasks) (told : List Told) → AreTasks request → Starts request start → HaveRun request.options.steps start told last → t ≡ counted last false
+    → EachIsAlone request t
 each_alone request start last t told may starts run is = λ i below.
     let options = request.options in
     let n = options.steps in
@@ -103,7 +106,8 @@ each_alone request start last t told may starts run is = λ i below.
     subst There (sym is) (now.0, now.1, whole)
 
 -- every task ended, and the last line was said, or not
-pub tasks_ended : (request : TaskRequest) (start t : Tasks) (before mid now : Stream) (told : Status) (done : Unit {0}) → AreTasks request → Starts request start → HasRunTasks request.options.steps start t before.told mid.told (Ok done) → AreSound t → before.faults ≤ mid.faults
+pub tasks_ended : (request : TaskRequest) (start t : Tasks) (before mid now : Stream) (told : Status) (done : Unit {0}) → AreTasks request → Starts request start
+    → HasRunTasks request.options.steps start t before.told mid.told (Ok done) → AreSound t → before.faults ≤ mid.faults
     → Says (worst status.Done t.tasks) (tasks_count_text t.natural t.entries t.pages t.switches) mid now told → RunsTasks request before now told t
 tasks_ended request start t before mid now told done may starts run sound later said =
     let quantum : start.kernel.quantum ≡ request.options.quantum = ap (λ (s : Tasks). s.kernel.quantum) starts.is ∙ started_quantum request request.scripts in
@@ -125,7 +129,8 @@ tasks_ended request start t before mid now told done may starts run sound later 
     })
 
 -- a part of what plays told is one of what the programs tell in turn
-cut_in_turn : (quantum : ℕ) (before now : Option (List ℕ)) (told rest whole : List Told) → whole ≡ told ++ rest → CutShort before now (told_text quantum told) → CutShort before now (told_text quantum whole)
+cut_in_turn : (quantum : ℕ) (before now : Option (List ℕ)) (told rest whole : List Told) → whole ≡ told ++ rest → CutShort before now (told_text quantum told)
+    → CutShort before now (told_text quantum whole)
 cut_in_turn quantum before now told rest whole is cut =
     subst (CutShort before now) (sym (ap (told_text quantum) is ∙ told_text_on quantum told rest)) (cut_less before now (told_text quantum told) (told_text quantum rest) cut)
 
@@ -135,7 +140,8 @@ BeginInTurn n start t before now = (plays : List Play) (last : Tasks) → TaskPa
     → Begins before now (told_text start.kernel.quantum (tries (65536 * turn) (turns_of n start)).told)
 
 -- a line could not be put
-pub tasks_cut : (request : TaskRequest) (start t : Tasks) (before now : Stream) (failed : Failed) → Starts request start → HasRunTasks request.options.steps start t before.told now.told (Err failed) → AreSound t → Rose before.faults now.faults → BeginInTurn request.options.steps start t before.told now.told
+pub tasks_cut : (request : TaskRequest) (start t : Tasks) (before now : Stream) (failed : Failed) → Starts request start → HasRunTasks request.options.steps start t before.told now.told (Err failed)
+    → AreSound t → Rose before.faults now.faults → BeginInTurn request.options.steps start t before.told now.told
     → RunsTasks request before now status.WriteFault t
 tasks_cut request start t before now failed starts run sound rose turns =
     let quantum : start.kernel.quantum ≡ request.options.quantum = ap (λ (s : Tasks). s.kernel.quantum) starts.is ∙ started_quantum request request.scripts in

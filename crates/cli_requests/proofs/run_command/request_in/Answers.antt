@@ -1,5 +1,5 @@
-use Rattle.std.proofs.Common.{◌∙◌, ap, refl, rules, subst, Err, inl}
-use Rattle.input_script.specs.Script.{IsBad, IsScript}
+use Rattle.std.proofs.Common.{◌∙◌, ap, refl, rules, subst, sym, Err, inl}
+use Rattle.input_script.specs.Script.{IsScript, script_fault}
 use Rattle.printed_text.specs.FaultyLines.{hex_word, script_word}
 use Rattle.cli_requests.specs.Reading.{Bad, Good}
 use Rattle.cli_requests.proofs.Judging.{position_inside, rest_whole}
@@ -25,7 +25,7 @@ returns-in-Err-Bad-read-clause-judged c =
     let bad = c.read-2.ensures.bad c.in-Err-Bad-read.line c.in-Err-Bad-read.fault (c.in-Err-Bad-read.is ∙ ap Err c.in-Err-Bad-read.field-0-is) in
     λ asked. inl (Good c.in-Ok.read c.in-Ok.ensures.found
     (Bad c.in-Err-Bad-read.line (script_word c.in-Err-Bad-read.fault)
-    (c.in-Err-Bad-read.fault, subst (λ z. IsBad z c.in-Err-Bad-read.line c.in-Err-Bad-read.fault) behind bad, refl)
+    (c.in-Err-Bad-read.fault, sym (ap script_fault behind) ∙ bad, refl)
     (cc (c.bad_script.ensures.job, c.in-Err-Bad-read.line-is, c.in-Err-Bad-read.fault-is))))
 
 pub returns-clause-judged : goal.returns-clause-judged

@@ -1,8 +1,8 @@
 use Rattle.std.proofs.Common.{◌≡◌, ◌∙◌, [], ap, length, refl, rules, subst, sym, Err, inl}
 use Rattle.std.specs.Prelude.{All}
 use Rattle.input_script.specs.Script.{Schedule}
-use Rattle.line_reader.specs.Lines.{lines_of}
-use Rattle.task_input.specs.Scripts.{IsFirst, Schedules}
+use Rattle.task_input.specs.Scripts.{Schedules, scripts_fault}
+use Rattle.task_input.proofs.FirstFaults.{each_task}
 use Rattle.printed_text.specs.FaultyLines.{hex_word, script_word}
 use Rattle.cli_requests.specs.Reading.{Bad, Good}
 use Rattle.cli_requests.specs.TasksCommand.{Placed, Refused}
@@ -29,7 +29,7 @@ returns-in-Err-Bad-read_scripts-clause-asks c =
     let bad = c.read_scripts.ensures.bad c.in-Err-Bad-read_scripts.line c.in-Err-Bad-read_scripts.fault (c.in-Err-Bad-read_scripts.is ∙ ap Err c.in-Err-Bad-read_scripts.field-0-is) in
     inl (Good c.in-Ok.read c.in-Ok.ensures.found
     (Bad c.in-Err-Bad-read_scripts.line (script_word c.in-Err-Bad-read_scripts.fault)
-    (c.in-Err-Bad-read_scripts.fault, subst (λ z. IsFirst c.args.options.count (lines_of z) c.in-Err-Bad-read_scripts.line c.in-Err-Bad-read_scripts.fault) behind bad, refl)
+    (c.in-Err-Bad-read_scripts.fault, sym (ap (scripts_fault c.args.options.count) behind) ∙ bad, refl)
     (cc (c.bad_script.ensures.job, c.in-Err-Bad-read_scripts.line-is, c.in-Err-Bad-read_scripts.fault-is))))
 
 pub returns-in-Some-clause-asks : goal.returns-in-Some-clause-asks
@@ -39,7 +39,7 @@ returns-in-Some-clause-asks c =
     let behind = rest_whole text position in
     let scripts = c.in-Ok-read_scripts.scripts.items in
     inl (Good c.in-Ok.read c.in-Ok.ensures.found
-    (Good scripts (subst (λ z. Schedules c.args.options.count (lines_of z) scripts) behind c.in-Ok-read_scripts.ensures.ok)
+    (Good scripts (subst (λ z. Schedules c.args.options.count z scripts) behind c.in-Ok-read_scripts.ensures.ok)
     (Refused c.in-Some.address c.in-Some.ensures.cases c.bad_image.ensures.job)))
 
 pub returns-in-None : goal.returns-in-None
@@ -50,11 +50,11 @@ returns-in-None c =
     let scripts = c.in-Ok-read_scripts.scripts.items in
     record {
       asks = inl (Good c.in-Ok.read c.in-Ok.ensures.found
-          (Good scripts (subst (λ z. Schedules c.args.options.count (lines_of z) scripts) behind c.in-Ok-read_scripts.ensures.ok)
+          (Good scripts (subst (λ z. Schedules c.args.options.count z scripts) behind c.in-Ok-read_scripts.ensures.ok)
           (Placed c.in-None.ensures.cases (cc (c.new.ensures.list)))));
       possible = record {
         possible = c.requires.possible;
-        each_task = ap length c.new.ensures.list ∙ c.in-Ok-read_scripts.ensures.ok.each_task;
+        each_task = ap length c.new.ensures.list ∙ each_task c.args.options.count _ scripts c.in-Ok-read_scripts.ensures.ok;
         unfailing = subst (All (λ (script : Schedule). script.failing ≡ [])) (sym c.new.ensures.list) c.in-Ok-read_scripts.ensures.unfailing;
         placed = c.in-None.ensures.cases;
       };

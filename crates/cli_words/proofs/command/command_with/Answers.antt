@@ -12,13 +12,17 @@ pub returns-in_err-run_options-in-Run-clause-cases : goal.returns-in_err-run_opt
 returns-in_err-run_options-in-Run-clause-cases c = rw c.from_residual.ensures (subst (AreNone c.args.chosen.values) (sym c.in-Run.is) c.in_err-run_options-in-Run.ensures.cases)
 
 pub returns-in_err-run_options-in-Dump-clause-cases : goal.returns-in_err-run_options-in-Dump-clause-cases
-returns-in_err-run_options-in-Dump-clause-cases c = rw c.from_residual-in_err-run_options-in-Dump.ensures (subst (AreNone c.args.chosen.values) (sym c.in-Dump.is) c.in_err-run_options-in-Dump.ensures.cases)
+returns-in_err-run_options-in-Dump-clause-cases c =
+    rw c.from_residual-in_err-run_options-in-Dump.ensures (subst (AreNone c.args.chosen.values) (sym c.in-Dump.is) c.in_err-run_options-in-Dump.ensures.cases)
 
 pub returns-in_err-run_options-in-Restart-clause-cases : goal.returns-in_err-run_options-in-Restart-clause-cases
-returns-in_err-run_options-in-Restart-clause-cases c = rw c.from_residual-in_err-run_options-in-Restart.ensures (subst (AreNone c.args.chosen.values) (sym c.in-Restart.is) c.in_err-run_options-in-Restart.ensures.cases)
+returns-in_err-run_options-in-Restart-clause-cases c =
+    rw c.from_residual-in_err-run_options-in-Restart.ensures (subst (AreNone c.args.chosen.values) (sym c.in-Restart.is) c.in_err-run_options-in-Restart.ensures.cases)
 
 pub returns-in_err-task_options-in-Tasks-clause-cases : goal.returns-in_err-task_options-in-Tasks-clause-cases
-returns-in_err-task_options-in-Tasks-clause-cases c = rw c.from_residual-in_err-task_options-in-Tasks.ensures (subst (AreNone c.args.chosen.values) (sym c.in-Tasks.is) c.in_err-task_options-in-Tasks.ensures.cases)
+returns-in_err-task_options-in-Tasks-clause-cases c =
+    rw c.from_residual-in_err-task_options-in-Tasks.ensures (subst (AreNone c.args.chosen.values) (sym c.in-Tasks.is) c.in_err-task_options-in-Tasks.ensures.cases)
 
 pub returns-in_err-seed_of-in-Generate-clause-cases : goal.returns-in_err-seed_of-in-Generate-clause-cases
-returns-in_err-seed_of-in-Generate-clause-cases c = rw c.from_residual-in_err-seed_of-in-Generate.ensures (subst (AreNone c.args.chosen.values) (sym c.in-Generate.is) c.in_err-seed_of-in-Generate.ensures.cases)
+returns-in_err-seed_of-in-Generate-clause-cases c =
+    rw c.from_residual-in_err-seed_of-in-Generate.ensures (subst (AreNone c.args.chosen.values) (sym c.in-Generate.is) c.in_err-seed_of-in-Generate.ensures.cases)

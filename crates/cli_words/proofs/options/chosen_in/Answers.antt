@@ -16,7 +16,10 @@ some (word ∷ words) apart is = absurd (cc)
 
 pub returns-in_err-choice : goal.returns-in_err-choice
 returns-in_err-choice c =
-    rw c.from_residual.ensures (record { cases = says_none _ _ _ _ c.loop-rest.invariant (some c.loop-rest.rest.now (λ e. grind (arith, nat_tests, e, c.loop-rest-test.ensures))) c.in_err-choice.ensures.cases })
+    rw c.from_residual.ensures (record {
+      cases = says_none _ _ _ _ c.loop-rest.invariant
+          (some c.loop-rest.rest.now (λ e. grind (arith, nat_tests, e, c.loop-rest-test.ensures))) c.in_err-choice.ensures.cases;
+    })
 
 pub returns-in_err-chosen : goal.returns-in_err-chosen
 returns-in_err-chosen c =

@@ -1,16 +1,17 @@
-use Rattle.input_script.proofs.Reading.{no_number, no_input}
+use Rattle.std.proofs.Common.{◌∙◌, ap, sym, refl, codes, ◌∷◌}
+use Rattle.input_script.specs.Grammar.{said_in}
+use Rattle.input_script.proofs.Words.{one_word, cut_word, event_words}
 use Rattle.input_script.proofs.line.event_in.Goals as goal
 
-pub returns-in_err-number : goal.returns-in_err-number
-returns-in_err-number c =
-    let parts = c.in_ok-digits.ensures.cases in
-    rw c.from_residual-in_err-number.ensures (record {
-      cases = no_number c.args.line.now c.in_ok-text.text.now c.in_ok-digits.digits.now c.in_ok-digits.input.now c.in_ok-text.ensures.cases parts.0 parts.1 c.in_err-number.ensures.cases;
-    })
+pub returns-in_err-word : goal.returns-in_err-word
+returns-in_err-word c = rw (c.from_residual.ensures, one_word c.args.input.now c.in_err-word.ensures.cases) (record { value = refl })
 
-pub returns-in_err-input : goal.returns-in_err-input
-returns-in_err-input c =
-    let parts = c.in_ok-digits.ensures.cases in
-    rw c.from_residual-in_err-input.ensures (record {
-      cases = no_input c.args.line.now c.in_ok-text.text.now c.in_ok-digits.digits.now c.in_ok-digits.input.now c.in_ok-text.ensures.cases parts.0 parts.1 c.in_err-input.ensures.cases;
-    })
+pub returns : goal.returns
+returns c =
+    let word = c.in_ok-word.word.now in
+    let value = c.in_ok-word.value.now in
+    let number = c.args.number.now in
+    let cut = c.in_ok-word.ensures.cases in
+    record {
+      value = c.event_of.ensures.value ∙ sym (ap (λ words. said_in (codes "at" ∷ number ∷ words)) (cut_word c.args.input.now word value cut.0 cut.1) ∙ event_words number word value);
+    }

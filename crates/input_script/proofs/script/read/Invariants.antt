@@ -1,9 +1,9 @@
 use Rattle.std.proofs.Common.{◌+◌, ◌≤◌, length}
 use Rattle.line_reader.specs.Lines.{lines_of}
-use Rattle.input_script.proofs.Done.{IsDone}
+use Rattle.input_script.specs.Judging.{IsDone}
 use Rattle.input_script.proofs.script.read.Given as goal
 
--- the lines before `rest` are accepted with what is scheduled so far
+-- the lines before `rest` have no fault, and schedule what is scheduled so far
 abbrev pub invariant-loop-rest : goal.invariant-loop-rest
 invariant-loop-rest l = record {
   done : IsDone (lines_of l.text) l.line l.script (lines_of l.rest);

@@ -1,12 +1,13 @@
-use Rattle.std.proofs.Common.{◌≤◌, ◌+◌, length}
+use Rattle.std.proofs.Common.{◌≡◌, ◌≤◌, ◌+◌, length}
 use Rattle.line_reader.specs.Lines.{lines_of}
-use Rattle.task_input.proofs.FirstLines.{HaveForms}
+use Rattle.line_reader.specs.Faults.{first_fault}
+use Rattle.task_input.specs.Reading.{first_formless, form_fault}
 use Rattle.task_input.proofs.lines.first_formless.Given as goal
 
--- the first lines, as many as were counted, have forms
+-- the first line without a form stands in the rest
 abbrev pub invariant-lines : goal.invariant-lines
 invariant-lines l = record {
-  forms : HaveForms l.count (lines_of l.text) l.number (lines_of l.rest);
+  forms : first_fault (form_fault l.count) (λ known line. known) (l.number + 1) tt (lines_of l.rest) ≡ first_formless l.count (lines_of l.text);
   left : l.number + length l.rest ≤ length l.text;
 }
 

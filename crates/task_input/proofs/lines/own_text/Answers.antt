@@ -13,8 +13,15 @@ lines-preserved c =
     let line = c.first_line.result.0.now in
     let put : c.put_line.new.own.items ≡ c.lines.own.items ++ ended (own_line c.args.task line) = c.in_ok-put_line.ensures.items ∙ ap (λ l. c.lines.own.items ++ ended l) c.own_line.ensures.value in
     record {
-      written = written_more c.args.task (lines_of c.args.text.now) c.lines.own.items c.put_line.new.own.items line (lines_of c.first_line.result.1.now) (subst P c.first_line.ensures.lines c.lines.invariant.written) put;
-      short = omega (arith, c.lines.invariant.short, ap length put, length-append c.lines.own.items (ended (own_line c.args.task line)), own_within c.args.task c.lines.rest.now line c.first_line.result.1.now c.first_line.ensures.cut);
+      written = written_more c.args.task (lines_of c.args.text.now) c.lines.own.items c.put_line.new.own.items line (lines_of c.first_line.result.1.now)
+          (subst P c.first_line.ensures.lines c.lines.invariant.written) put;
+      short = omega (
+        arith,
+        c.lines.invariant.short,
+        ap length put,
+        length-append c.lines.own.items (ended (own_line c.args.task line)),
+        own_within c.args.task c.lines.rest.now line c.first_line.result.1.now c.first_line.ensures.cut,
+      );
     }
 
 pub returns-clause-lines : goal.returns-clause-lines

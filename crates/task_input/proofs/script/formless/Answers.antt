@@ -1,12 +1,8 @@
-use Rattle.std.proofs.Common.{refl, arith}
-use Rattle.task_input.specs.Scripts.{Formless}
+use Rattle.task_input.proofs.FirstFaults.{far_formless}
 use Rattle.task_input.proofs.script.formless.Goals as goal
 
 pub returns-in-Some : goal.returns-in-Some
-returns-in-Some c = record {
-  far = record {
-    is = Formless c.in-Some.ensures.cases refl;
-    no_form = c.in-Some.ensures.first;
-    in_texts = λ task other fault below faulty. absurd (omega arith);
-  };
-}
+returns-in-Some c = record { far = far_formless c.args.count c.args.text.now _ (rw c.in-Some.is at c.first_formless.ensures.value) }
+
+pub returns-in-None : goal.returns-in-None
+returns-in-None c = record { far = far_formless c.args.count c.args.text.now _ (rw c.in-None.is at c.first_formless.ensures.value) }

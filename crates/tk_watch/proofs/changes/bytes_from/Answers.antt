@@ -9,5 +9,6 @@ bytes-preserved c =
     record {
       within = omega (arith, c.bytes-test.true);
       size = size_next c.bytes.bytes c.bytes.i c.memory_byte.result c.bytes.invariant.size;
-      held = λ j below. now_next memory c.bytes.bytes 0 c.args.at c.bytes.i c.memory_byte.result (omega (arith, c.bytes.invariant.size, c.bytes-test.true, c.requires.few)) c.memory_byte.ensures.value (λ k above less. c.bytes.invariant.held k less) j (omega arith) below;
+      held = λ j below. now_next memory c.bytes.bytes 0 c.args.at c.bytes.i c.memory_byte.result (omega (arith, c.bytes.invariant.size, c.bytes-test.true, c.requires.few)) c.memory_byte.ensures.value
+          (λ k above less. c.bytes.invariant.held k less) j (omega arith) below;
     }

@@ -20,6 +20,7 @@ returns-in-Some-clause-spared c = λ i below out. (
       let ask = c.asks.ensures.value in
       let form_of = λ (form : Form) (is : instruction_at (image_held c.args.k.now) c.args.p.now.at ≡ Some form). c.in-Some.ensures.same form is in
       step_spares (program_of m.kernel) (flat_of m) b untaken
-      (λ form is touches. out (c.touched.ensures.all i below (subst (λ a. IsTouched a b) (sym (ask ∙ ap (ask_of c.in-Some.instr.now) c.core.ensures.same ∙ ap (λ f. ask_of f (core_of c.args.k.now c.args.p.now.at)) (form_of form is))) touches)))
+      (λ form is touches. out (c.touched.ensures.all i below (subst (λ a. IsTouched a b)
+      (sym (ask ∙ ap (ask_of c.in-Some.instr.now) c.core.ensures.same ∙ ap (λ f. ask_of f (core_of c.args.k.now c.args.p.now.at)) (form_of form is))) touches)))
       line next goes,
 )

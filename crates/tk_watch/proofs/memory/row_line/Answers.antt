@@ -25,7 +25,8 @@ bytes-preserved c =
     let added = c.push_byte.ensures.text ∙ ap (λ z. z ++ byte_text c.memory_byte-byte.result) c.push.ensures.text ∙ append_assoc c.bytes.text.items (codes " ") (byte_text c.memory_byte-byte.result) in
     record {
       within = omega (arith, c.bytes-test.true);
-      text = row_goes_on (λ k. byte_told (byte k)) i (address_text c.args.at) c.bytes.text.items c.push_byte.new.text.items (byte_told c.memory_byte-byte.result) c.bytes.invariant.text added (ap byte_told value);
+      text = row_goes_on (λ k. byte_told (byte k)) i (address_text c.args.at) c.bytes.text.items c.push_byte.new.text.items (byte_told c.memory_byte-byte.result) c.bytes.invariant.text added
+          (ap byte_told value);
       size = omega (arith, c.bytes.invariant.size, c.push.ensures.longer, c.push_byte.ensures.longer);
       filled = filled_next byte i c.memory_byte-byte.result c.bytes.filled c.bytes.invariant.filled value;
     }
@@ -33,7 +34,10 @@ bytes-preserved c =
 pub returns-then-filled : goal.returns-then-filled
 returns-then-filled c =
     let all : c.bytes.i ≡ 16 = omega (arith, c.bytes-test.false, c.bytes.invariant.within) in
-    record { text = row_told (vmem c.args.mote.now.sram c.args.mote.now.swap) c.bytes.text.items c.push-2.new.text.items c.args.at c.bytes.i all (sym c.if-filled.true ∙ c.bytes.invariant.filled) c.bytes.invariant.text c.push-2.ensures.text }
+    record {
+      text = row_told (vmem c.args.mote.now.sram c.args.mote.now.swap) c.bytes.text.items c.push-2.new.text.items c.args.at c.bytes.i all
+          (sym c.if-filled.true ∙ c.bytes.invariant.filled) c.bytes.invariant.text c.push-2.ensures.text;
+    }
 
 pub returns-else-filled : goal.returns-else-filled
 returns-else-filled c =

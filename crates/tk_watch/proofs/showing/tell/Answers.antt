@@ -35,4 +35,7 @@ returns-in-Ok g c =
     let times : ℕ → ℕ = λ a. times_at runs a new.steps in
     let same = ap (λ t. gathered ++ (t ++ stop_of end new)) (left_same view slots events c.run.new.counts times new.kernel.mote.flash.ops (flat_of new).now c.in-Ok.ensures.run.1) in
     let said = subst (λ t. Says (status_of_stop end) t mid now c.tell_end.result) same c.tell_end.ensures.said in
-    record { shown = HasShown.Whole told.text end told.advanced (said_behind (status_of_stop end) c.tell_end.result before mid now (told_text view runs new.steps) gathered (end_text view slots events times end new) told.sent c.in-Ok.ensures.cause.later said) }
+    record {
+      shown = HasShown.Whole told.text end told.advanced (said_behind (status_of_stop end) c.tell_end.result before mid now (told_text view runs new.steps) gathered
+          (end_text view slots events times end new) told.sent c.in-Ok.ensures.cause.later said);
+    }

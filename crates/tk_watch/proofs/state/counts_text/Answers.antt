@@ -7,4 +7,7 @@ pub returns : goal.returns
 returns c =
     let m = c.args.mote.now in
     let events = c.args.bounds.events in
-    record { text = c.counts.ensures.text ∙ same_counts _ _ _ _ events _ _ c.args.bounds.slots c.polls.ensures.value c.events_taken-taken.ensures.value (c.given.ensures.value ∙ sym (number_of_pages m.sram m.swap c.requires.paged)) }
+    record {
+      text = c.counts.ensures.text
+          ∙ same_counts _ _ _ _ events _ _ c.args.bounds.slots c.polls.ensures.value c.events_taken-taken.ensures.value (c.given.ensures.value ∙ sym (number_of_pages m.sram m.swap c.requires.paged));
+    }

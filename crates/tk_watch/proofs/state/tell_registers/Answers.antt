@@ -17,7 +17,8 @@ registers-init g c = record {
 pub registers-preserved : goal.registers-preserved
 registers-preserved g c =
     let row : ℕ → List ℕ = λ n. register_text n (slice_index c.args.registers.now n) in
-    let line = subst (λ t. IsSent (c.registers.gathered.items ++ t) c.add.new.gathered.items (g.K.Sink.taken c.registers.out) (g.K.Sink.taken c.add.new.out)) c.register_text-line.ensures.text c.in_ok-add.ensures.text in
+    let line = subst (λ t. IsSent (c.registers.gathered.items ++ t) c.add.new.gathered.items (g.K.Sink.taken c.registers.out)
+    (g.K.Sink.taken c.add.new.out)) c.register_text-line.ensures.text c.in_ok-add.ensures.text in
     record {
       within = omega (arith, c.registers-test.true);
       sent = rows_next row c.registers.number c.args.gathered.now.items c.registers.gathered.items c.add.new.gathered.items _ _ _ c.registers.invariant.sent line;

@@ -9,4 +9,5 @@ returns-in_err-tell_registers-clause-text g c =
 
 pub returns-clause-text : goal.returns-clause-text
 returns-clause-text g c =
-    gathers_on c.tell_counts.result c.args.gathered.now.items c.tell_registers.new.gathered.items c.tell_counts.new.gathered.items _ _ _ _ _ c.in_ok-tell_registers.ensures.text c.tell_counts.ensures.text
+    gathers_on c.tell_counts.result c.args.gathered.now.items c.tell_registers.new.gathered.items c.tell_counts.new.gathered.items _ _ _ _ _
+    c.in_ok-tell_registers.ensures.text c.tell_counts.ensures.text

@@ -13,7 +13,12 @@ use Rattle.tk_watch.proofs.steps.watched_steps.Goals as goal
 pub returns-in_err-tell_front-clause-watched : goal.returns-in_err-tell_front-clause-watched
 returns-in_err-tell_front-clause-watched g c =
     let failed = err_from_is_err_and c.from_residual.result c.from_residual.ensures.1 in
-    rw failed.1 (record { done = 0; within = omega arith; put = cut_start c.args.view.now (whole c.args.k.now c.args.p.now) c.args.gathered.now.items _ _ c.requires.ready c.requires.quiet c.requires.empty c.in_err-tell_front.ensures.text })
+    rw failed.1 (record {
+      done = 0;
+      within = omega arith;
+      put = cut_start c.args.view.now
+          (whole c.args.k.now c.args.p.now) c.args.gathered.now.items _ _ c.requires.ready c.requires.quiet c.requires.empty c.in_err-tell_front.ensures.text;
+    })
 
 pub returns-in_err-tell_front-clause-turns : goal.returns-in_err-tell_front-clause-turns
 returns-in_err-tell_front-clause-turns g c = λ turn below. absurd (omega (arith, below, c.requires.begins))
@@ -26,7 +31,9 @@ outset_of-outset-requires-clause-ready g c = c.turns.invariant.way.between.ready
 
 pub turns-init : goal.turns-init
 turns-init g c = record {
-  way = told_start c.args.view.now (whole c.args.k.now c.args.p.now) c.args.gathered.now.items c.tell_front.new.gathered.items _ _ c.requires.ready c.requires.quiet c.requires.empty c.in_ok-tell_front.ensures.text;
+  way =
+      told_start c.args.view.now (whole c.args.k.now c.args.p.now) c.args.gathered.now.items c.tell_front.new.gathered.items _ _
+      c.requires.ready c.requires.quiet c.requires.empty c.in_ok-tell_front.ensures.text;
   cursor = c.forget.ensures.right c.args.k.now.layout c.args.k.now.mote.flash.words;
   held = c.watched_bytes-bytes.ensures.held;
   size = c.watched_bytes-bytes.ensures.size;
@@ -40,11 +47,16 @@ returns-in_err-send_in_turn-clause-watched g c =
     let old = whole c.args.k.now c.args.p.now in
     let now = whole c.turns.k c.turns.p in
     let failed = err_from_is_err_and c.from_residual-in_err-send_in_turn.result c.from_residual-in_err-send_in_turn.ensures.1 in
-    rw failed.1 (record { done = c.turns.done; within = omega (arith, c.turns-test.true); put = cut_in_turn c.args.view.now old now c.turns.done c.turns.gathered.items _ _ _ c.turns.invariant.way c.in_err-send_in_turn.ensures.text })
+    rw failed.1 (record {
+      done = c.turns.done;
+      within = omega (arith, c.turns-test.true);
+      put = cut_in_turn c.args.view.now old now c.turns.done c.turns.gathered.items _ _ _ c.turns.invariant.way c.in_err-send_in_turn.ensures.text;
+    })
 
 pub returns-in_err-send_in_turn-clause-turns : goal.returns-in_err-send_in_turn-clause-turns
 returns-in_err-send_in_turn-clause-turns g c =
-    turns_left g.K.Sink.taken c.args.view.now (whole c.args.k.now c.args.p.now) c.args.out.now c.turns.done c.turns.p.steps c.turns.invariant.turns (omega (arith, c.turns.invariant.way.between.ran.steps, c.requires.begins))
+    turns_left g.K.Sink.taken c.args.view.now (whole c.args.k.now c.args.p.now) c.args.out.now c.turns.done c.turns.p.steps c.turns.invariant.turns
+    (omega (arith, c.turns.invariant.way.between.ran.steps, c.requires.begins))
 
 pub returns-in-Some-clause-watched : goal.returns-in-Some-clause-watched
 returns-in-Some-clause-watched g c =
@@ -54,8 +66,9 @@ returns-in-Some-clause-watched g c =
     let new = whole c.turn-count.new.k c.turn-count.new.p in
     let way = told_in_turn view old now c.turns.done c.turns.gathered.items c.send_in_turn.new.gathered.items _ _ _ c.turns.invariant.way c.in_ok-send_in_turn.ensures.text in
     let untold : AreUntold view c.turns.done c.turn-count.result = λ step from to. c.untold_steps.ensures.untold step from (omega (arith, to, c.turn-count.ensures.most, c.min.ensures)) in
-    (told_ended view old now new c.turns.done c.turn-count.result c.args.n c.turn-count.new.p.line c.in-Some.end c.send_in_turn.new.gathered.items _ _ untold c.requires.begins c.requires.going c.requires.whole c.turns-test.true
-    (omega (arith, c.turn-count.ensures.most, c.min.ensures, c.turns.invariant.within)) way c.turn-count.ensures.turned c.in-Some.is).0
+    (told_ended view old now new c.turns.done c.turn-count.result c.args.n c.turn-count.new.p.line c.in-Some.end c.send_in_turn.new.gathered.items _ _ untold
+    c.requires.begins c.requires.going c.requires.whole c.turns-test.true (omega (arith, c.turn-count.ensures.most, c.min.ensures, c.turns.invariant.within))
+    way c.turn-count.ensures.turned c.in-Some.is).0
 
 pub returns-in-Some-clause-turns : goal.returns-in-Some-clause-turns
 returns-in-Some-clause-turns g c =
@@ -65,9 +78,11 @@ returns-in-Some-clause-turns g c =
     let new = whole c.turn-count.new.k c.turn-count.new.p in
     let way = told_in_turn view old now c.turns.done c.turns.gathered.items c.send_in_turn.new.gathered.items _ _ _ c.turns.invariant.way c.in_ok-send_in_turn.ensures.text in
     let untold : AreUntold view c.turns.done c.turn-count.result = λ step from to. c.untold_steps.ensures.untold step from (omega (arith, to, c.turn-count.ensures.most, c.min.ensures)) in
-    let most = (told_ended view old now new c.turns.done c.turn-count.result c.args.n c.turn-count.new.p.line c.in-Some.end c.send_in_turn.new.gathered.items _ _ untold c.requires.begins c.requires.going c.requires.whole c.turns-test.true
-    (omega (arith, c.turn-count.ensures.most, c.min.ensures, c.turns.invariant.within)) way c.turn-count.ensures.turned c.in-Some.is).1 in
-    turns_left g.K.Sink.taken view old c.args.out.now _ c.turn-count.new.p.steps (turns_on g.K.Sink.taken view old now c.args.out.now c.send_in_turn.new.out c.turns.done c.send_in_turn.new.gathered.items c.turns.invariant.turns way c.in_ok-send_in_turn.ensures.turn)
+    let most = (told_ended view old now new c.turns.done c.turn-count.result c.args.n c.turn-count.new.p.line c.in-Some.end c.send_in_turn.new.gathered.items _ _ untold
+    c.requires.begins c.requires.going c.requires.whole c.turns-test.true (omega (arith, c.turn-count.ensures.most, c.min.ensures, c.turns.invariant.within))
+    way c.turn-count.ensures.turned c.in-Some.is).1 in
+    turns_left g.K.Sink.taken view old c.args.out.now _ c.turn-count.new.p.steps
+    (turns_on g.K.Sink.taken view old now c.args.out.now c.send_in_turn.new.out c.turns.done c.send_in_turn.new.gathered.items c.turns.invariant.turns way c.in_ok-send_in_turn.ensures.turn)
     (omega (arith, most, c.turn-count.ensures.most, c.min.ensures, c.untold_steps.ensures.most))
 
 pub turns-smaller : goal.turns-smaller
@@ -91,7 +106,8 @@ tell_step-requires-clause-held g c =
     let now = whole c.turns.k c.turns.p in
     let new = whole c.turn-count.new.k c.turn-count.new.p in
     let untold : AreUntold view c.turns.done c.turn-count.result = λ step from to. c.untold_steps.ensures.untold step from (omega (arith, to, c.turn-count.ensures.most, c.min.ensures)) in
-    held_beside view now new c.turns.done c.turn-count.result _ _ c.turn-count.new.p.line c.turns.bytes untold c.turn-count.ensures.turned c.in_default.is c.outset_of-outset.ensures.spared c.turns.invariant.held
+    held_beside view now new c.turns.done c.turn-count.result _ _ c.turn-count.new.p.line c.turns.bytes untold c.turn-count.ensures.turned c.in_default.is
+    c.outset_of-outset.ensures.spared c.turns.invariant.held
 
 pub turns-preserved : goal.turns-preserved
 turns-preserved g c =
@@ -103,10 +119,14 @@ turns-preserved g c =
     let untold : AreUntold view c.turns.done c.turn-count.result = λ step from to. c.untold_steps.ensures.untold step from (omega (arith, to, c.turn-count.ensures.most, c.min.ensures)) in
     let on = turned_on view old now new c.turns.done c.turn-count.result c.turn-count.new.p.line c.send_in_turn.new.gathered.items _ _ untold way c.turn-count.ensures.turned c.in_default.is in
     let text = λ (pc : ℕ). c.send_in_turn.new.gathered.items ++ step_told view (c.turns.done + c.turn-count.result) (line_before c.turn-count.new.p.line []) pc c.turns.bytes (flat_of new).now in
-    let told = subst (λ pc. IsSent (text pc) c.tell_step.new.gathered.items (g.K.Sink.taken c.send_in_turn.new.out) (g.K.Sink.taken c.tell_step.new.out)) c.outset_of-outset.ensures.pc c.in_ok-tell_step.ensures.text in
-    let next = turns_on g.K.Sink.taken view old now c.args.out.now c.send_in_turn.new.out c.turns.done c.send_in_turn.new.gathered.items c.turns.invariant.turns way c.in_ok-send_in_turn.ensures.turn in
+    let told = subst (λ pc. IsSent (text pc) c.tell_step.new.gathered.items (g.K.Sink.taken c.send_in_turn.new.out)
+    (g.K.Sink.taken c.tell_step.new.out)) c.outset_of-outset.ensures.pc c.in_ok-tell_step.ensures.text in
+    let next =
+    turns_on g.K.Sink.taken view old now c.args.out.now c.send_in_turn.new.out c.turns.done c.send_in_turn.new.gathered.items c.turns.invariant.turns way c.in_ok-send_in_turn.ensures.turn in
     record {
-      way = told_gone view old now new c.turns.done (c.turns.done + c.turn-count.result) c.turn-count.new.p.line c.turns.bytes c.send_in_turn.new.gathered.items c.tell_step.new.gathered.items _ _ _ on way c.turns.invariant.held told;
+      way =
+          told_gone view old now new c.turns.done (c.turns.done + c.turn-count.result) c.turn-count.new.p.line c.turns.bytes c.send_in_turn.new.gathered.items
+          c.tell_step.new.gathered.items _ _ _ on way c.turns.invariant.held told;
       cursor = c.turn-count.ensures.cursor;
       held = c.in_ok-tell_step.ensures.held;
       size = c.in_ok-tell_step.ensures.size;
@@ -130,7 +150,8 @@ returns-in_err-tell_step-clause-watched g c =
     rw failed.1 (record {
       done = c.turns.done + c.turn-count.result;
       within = omega (arith, c.turn-count.ensures.most, c.min.ensures, c.turns.invariant.within);
-      put = cut_gone view old now new c.turns.done (c.turns.done + c.turn-count.result) c.turn-count.new.p.line c.turns.bytes c.send_in_turn.new.gathered.items _ _ _ on way c.turns.invariant.held told;
+      put =
+          cut_gone view old now new c.turns.done (c.turns.done + c.turn-count.result) c.turn-count.new.p.line c.turns.bytes c.send_in_turn.new.gathered.items _ _ _ on way c.turns.invariant.held told;
     })
 
 pub returns-in_err-tell_step-clause-turns : goal.returns-in_err-tell_step-clause-turns
@@ -142,7 +163,8 @@ returns-in_err-tell_step-clause-turns g c =
     let way = told_in_turn view old now c.turns.done c.turns.gathered.items c.send_in_turn.new.gathered.items _ _ _ c.turns.invariant.way c.in_ok-send_in_turn.ensures.text in
     let untold : AreUntold view c.turns.done c.turn-count.result = λ step from to. c.untold_steps.ensures.untold step from (omega (arith, to, c.turn-count.ensures.most, c.min.ensures)) in
     let on = turned_on view old now new c.turns.done c.turn-count.result c.turn-count.new.p.line c.send_in_turn.new.gathered.items _ _ untold way c.turn-count.ensures.turned c.in_default.is in
-    turns_left g.K.Sink.taken view old c.args.out.now _ c.turn-count.new.p.steps (turns_on g.K.Sink.taken view old now c.args.out.now c.send_in_turn.new.out c.turns.done c.send_in_turn.new.gathered.items c.turns.invariant.turns way c.in_ok-send_in_turn.ensures.turn)
+    turns_left g.K.Sink.taken view old c.args.out.now _ c.turn-count.new.p.steps
+    (turns_on g.K.Sink.taken view old now c.args.out.now c.send_in_turn.new.out c.turns.done c.send_in_turn.new.gathered.items c.turns.invariant.turns way c.in_ok-send_in_turn.ensures.turn)
     (omega (arith, on.between.ran.steps, c.requires.begins, c.turn-count.ensures.most, c.min.ensures, c.untold_steps.ensures.most))
 
 pub returns-clause-watched : goal.returns-clause-watched
@@ -151,9 +173,15 @@ returns-clause-watched g c =
     let now = whole c.turns.k c.turns.p in
     let new = whole c.at_bound.new.k c.at_bound.new.p in
     let done : c.turns.done ≡ c.args.n = omega (arith, c.turns-test.false, c.turns.invariant.within) in
-    told_bound c.args.view.now old now new c.args.n c.at_bound.result c.turns.gathered.items _ _ c.requires.begins c.requires.going c.requires.whole (subst (λ i. IsToldSoFar c.args.view.now old now i c.turns.gathered.items (g.K.Sink.taken c.args.out.now) (g.K.Sink.taken c.turns.out)) done c.turns.invariant.way) c.at_bound.ensures.bound
+    told_bound c.args.view.now old now new c.args.n c.at_bound.result c.turns.gathered.items _ _ c.requires.begins c.requires.going c.requires.whole
+    (subst (λ i. IsToldSoFar c.args.view.now old now i c.turns.gathered.items (g.K.Sink.taken c.args.out.now) (g.K.Sink.taken c.turns.out)) done c.turns.invariant.way) c.at_bound.ensures.bound
 
 pub returns-clause-turns : goal.returns-clause-turns
 returns-clause-turns g c =
     turns_left g.K.Sink.taken c.args.view.now (whole c.args.k.now c.args.p.now) c.args.out.now c.turns.done c.at_bound.new.p.steps c.turns.invariant.turns
-    (omega (arith, c.turns.invariant.way.between.ran.steps, c.requires.begins, bound_counts (whole c.turns.k c.turns.p) (whole c.at_bound.new.k c.at_bound.new.p) c.at_bound.result c.at_bound.ensures.bound))
+    (omega (
+      arith,
+      c.turns.invariant.way.between.ran.steps,
+      c.requires.begins,
+      bound_counts (whole c.turns.k c.turns.p) (whole c.at_bound.new.k c.at_bound.new.p) c.at_bound.result c.at_bound.ensures.bound,
+    ))

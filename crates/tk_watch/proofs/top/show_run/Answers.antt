@@ -7,4 +7,7 @@ pub returns : goal.returns
 returns g c =
     let request = c.args.request in
     let image : IsImage request.image = subst IsImage (c.image.view_is) c.image.invariant in
-    record { shows = request_shown c.args.view.now request c.started-begun.result _ _ _ c.show.result image c.requires.options (ap length c.events.ensures.value) c.started-begun.ensures.booted c.started-begun.ensures.start c.show.ensures.shown }
+    record {
+      shows = request_shown c.args.view.now request c.started-begun.result _ _ _ c.show.result image c.requires.options
+          (ap length c.events.ensures.value) c.started-begun.ensures.booted c.started-begun.ensures.start c.show.ensures.shown;
+    }

@@ -9,7 +9,8 @@ returns-in-Run g c =
 
 pub returns-in-Print : goal.returns-in-Print
 returns-in-Print g c =
-    let answer = answer_line _ _ _ _ _ _ _ _ c.in-Print.status c.in-Print.line c.deref.result.now _ c.in-Some.ensures.cases.0 c.run_job.ensures.asks c.in-Print.is c.deref.ensures.0 c.say.ensures.said in
+    let answer =
+    answer_line _ _ _ _ _ _ _ _ c.in-Print.status c.in-Print.line c.deref.result.now _ c.in-Some.ensures.cases.0 c.run_job.ensures.asks c.in-Print.is c.deref.ensures.0 c.say.ensures.said in
     record { answer = answer; exact = answer_is_exact _ _ _ _ _ _ answer; lines = λ request n. tells_all _ request.script.events n }
 
 pub returns-in-Some : goal.returns-in-Some

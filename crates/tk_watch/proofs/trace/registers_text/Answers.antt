@@ -15,7 +15,8 @@ registers-init c = record {
 pub registers-preserved : goal.registers-preserved
 registers-preserved c =
     let row : ℕ → List ℕ = λ n. register_told (slice_index c.args.registers.now n) in
-    let both = c.push_byte.ensures.text ∙ ap (λ t. t ++ byte_text (slice_index c.args.registers.now c.registers.number)) c.push.ensures.text ∙ append_assoc c.registers.text.items (codes " ") (byte_text (slice_index c.args.registers.now c.registers.number)) in
+    let both = c.push_byte.ensures.text ∙ ap (λ t. t ++ byte_text (slice_index c.args.registers.now c.registers.number)) c.push.ensures.text
+    ∙ append_assoc c.registers.text.items (codes " ") (byte_text (slice_index c.args.registers.now c.registers.number)) in
     record {
       within = omega (arith, c.registers-test.true);
       longer = omega (arith, c.push.ensures.longer, c.push_byte.ensures.longer, c.registers.invariant.longer);

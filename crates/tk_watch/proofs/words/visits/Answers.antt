@@ -9,7 +9,10 @@ empty [] is = tt
 empty (word ∷ words) is = absurd (omega arith)
 
 pub places-init : goal.places-init
-places-init c = record { front = subst (λ p. IsFront (map string_bytes c.args.words.now) p (map string_bytes c.args.words.now)) (sym c.new-places.ensures) refl; few = omega (arith, ap length c.new-places.ensures) }
+places-init c = record {
+  front = subst (λ p. IsFront (map string_bytes c.args.words.now) p (map string_bytes c.args.words.now)) (sym c.new-places.ensures) refl;
+  few = omega (arith, ap length c.new-places.ensures);
+}
 
 pub returns-in-None-clause-cases : goal.returns-in-None-clause-cases
 returns-in-None-clause-cases c =
@@ -19,7 +22,9 @@ returns-in-None-clause-cases c =
 pub returns-then-len-eq-MOST_PLACES-clause-cases : goal.returns-then-len-eq-MOST_PLACES-clause-cases
 returns-then-len-eq-MOST_PLACES-clause-cases c = λ behind view.
     let cut = first_bytes c.places.rest.now c.word-item.result _ c.in-len1-up.len_at_least c.word-item.is c.as_str.ensures.value in
-    visits_many _ c.places.places.items _ _ c.in-Some.place behind view (subst (IsFront (map string_bytes c.args.words.now) c.places.places.items) cut c.places.invariant.front) c.in-Some.ensures.cases (omega (arith, c.if-len-eq-MOST_PLACES.true, c.len.ensures.value))
+    visits_many _ c.places.places.items _ _ c.in-Some.place behind view
+    (subst (IsFront (map string_bytes c.args.words.now) c.places.places.items) cut c.places.invariant.front) c.in-Some.ensures.cases
+    (omega (arith, c.if-len-eq-MOST_PLACES.true, c.len.ensures.value))
 
 pub places-preserved : goal.places-preserved
 places-preserved c =
@@ -31,4 +36,5 @@ places-preserved c =
     }
 
 pub returns-clause-cases : goal.returns-clause-cases
-returns-clause-cases c = visits_told _ c.places.places c.places.rest.now _ c.places.invariant.front (empty c.places.rest.now (omega (arith, c.in_default.len_below))) c.places.invariant.few c.some_visits-2.ensures.cases
+returns-clause-cases c =
+    visits_told _ c.places.places c.places.rest.now _ c.places.invariant.front (empty c.places.rest.now (omega (arith, c.in_default.len_below))) c.places.invariant.few c.some_visits-2.ensures.cases

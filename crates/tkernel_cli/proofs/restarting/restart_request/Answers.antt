@@ -30,7 +30,8 @@ restart-told-requires g c =
     record {
       right = subst IsRight (sym layout) (layout_right (length request.image) c.words.ensures.image.few);
       length = ap length c.words.ensures.words ∙ sym (ap (λ (l : Layout). l.image_words) layout);
-      around = subst (λ i. HaveFormsAround c.first.inside.kernel.layout i c.lost_flash-flash.result.words) (ap (λ (m : Machine). image_held m.kernel) c.take_cursor-cursor.ensures.same ∙ held ∙ sym c.words.ensures.words) c.lost_flash-flash.ensures.around;
+      around = subst (λ i. HaveFormsAround c.first.inside.kernel.layout i c.lost_flash-flash.result.words)
+          (ap (λ (m : Machine). image_held m.kernel) c.take_cursor-cursor.ensures.same ∙ held ∙ sym c.words.ensures.words) c.lost_flash-flash.ensures.around;
       sound = c.lost_flash-flash.ensures.sound;
       room = omega (arith, c.lost_flash-flash.ensures.few);
     }
@@ -67,7 +68,8 @@ returns g c =
         runs = ran.1;
         left = left;
         told = c.restart-told.result;
-        restarts = subst (λ f. Restarts (layout_of (length request.image)) request.image f left c.restart-told.result) (c.lost_flash-flash.ensures.lost ∙ ap lost_flash c.take_cursor-cursor.ensures.same)
+        restarts = subst (λ f. Restarts (layout_of (length request.image)) request.image f left c.restart-told.result)
+            (c.lost_flash-flash.ensures.lost ∙ ap lost_flash c.take_cursor-cursor.ensures.same)
             (subst (λ l. R l request.image) layout (subst (R c.first.inside.kernel.layout) c.words.ensures.words c.restart-told.ensures.restarts));
         faithful = faithful;
         used = subst (λ l. used_pages l left.words ≡ c.restart-told.result.kept) layout c.restart-told.ensures.used;

@@ -34,7 +34,8 @@ returns-in-Ok-advance g c = record {
       let first = stream g.K.Sink.taken g.K.Sink.faults c.put.new.k in
       let mid = stream g.K.Sink.taken g.K.Sink.faults c.advance.new.out in
       let now = stream g.K.Sink.taken g.K.Sink.faults c.tell_end.new.out in
-      let advanced = subst (λ n. HasAdvanced (second_start request flash) c.advance.new.self n first.told mid.told c.advance.result) (sym steps) (subst (λ m. HasAdvanced m c.advance.new.self c.args.steps first.told mid.told c.advance.result) same c.advance.ensures.advanced) in
+      let advanced = subst (λ n. HasAdvanced (second_start request flash) c.advance.new.self n first.told mid.told c.advance.result) (sym steps)
+      (subst (λ m. HasAdvanced m c.advance.new.self c.args.steps first.told mid.told c.advance.result) same c.advance.ensures.advanced) in
       over_answered request flash (restart_text c.args.told.kept c.args.told.dropped) before first mid now c.tell_end.result c.advance.result c.in-Ok-advance.end c.advance.new.self
       faithful kept (omega (arith, steps, c.requires.steps)) put c.in-Ok.ensures.cause.later advanced c.in-Ok-advance.is c.advance.ensures.cause c.tell_end.ensures.said;
 }
@@ -48,7 +49,8 @@ returns-in-Err-advance g c = record {
       let before = stream g.K.Sink.taken g.K.Sink.faults c.args.out.now in
       let first = stream g.K.Sink.taken g.K.Sink.faults c.put.new.k in
       let now = stream g.K.Sink.taken g.K.Sink.faults c.advance.new.out in
-      let advanced = subst (λ n. HasAdvanced (second_start request flash) c.advance.new.self n first.told now.told c.advance.result) (sym steps) (subst (λ m. HasAdvanced m c.advance.new.self c.args.steps first.told now.told c.advance.result) same c.advance.ensures.advanced) in
+      let advanced = subst (λ n. HasAdvanced (second_start request flash) c.advance.new.self n first.told now.told c.advance.result) (sym steps)
+      (subst (λ m. HasAdvanced m c.advance.new.self c.args.steps first.told now.told c.advance.result) same c.advance.ensures.advanced) in
       let start = over_is request.image flash request.script request.options.quantum request.options.swap faithful kept in
       let turns = subst (λ m. GoOutInTurn g.K.Sink.taken m c.put.new.k c.advance.new.out (c.advance.new.self.steps - m.steps)) same c.advance.ensures.turns in
       over_cut request flash (restart_text c.args.told.kept c.args.told.dropped) before first now c.advance.result c.in-Err-advance.field-0 c.advance.new.self

@@ -12,6 +12,7 @@ returns c =
     let may = c.requires.possible in
     let advanced = subst (λ m. HasAdvanced m c.advance-end.new.self request.options.steps None None c.advance-end.result) c.in_ok-machine.ensures.booted c.advance-end.ensures.advanced in
     record {
-      ran = ran_silently request c.advance-end.result c.advance-end.new.self c.requires.image (subst IsKept c.in_ok-machine.ensures.booted c.in_ok-machine.ensures.kept) (omega (arith, may.2)) advanced c.advance-end.ensures.cause;
+      ran = ran_silently request c.advance-end.result c.advance-end.new.self c.requires.image (subst IsKept c.in_ok-machine.ensures.booted c.in_ok-machine.ensures.kept)
+          (omega (arith, may.2)) advanced c.advance-end.ensures.cause;
       layout = c.advance-end.ensures.advanced.stays.layout ∙ ap (λ (m : Machine). m.kernel.layout) c.in_ok-machine.ensures.booted;
     }
