@@ -1,15 +1,15 @@
 -- The 160 entries of both tables, numbered in one row, after a write of one.
-use Rattle.std.proofs.Common.{◌≡◌, ℕ, ◌+◌, ◌-◌, ◌*◌, ◌/◌, ◌%◌, ◌<◌, ◌≤◌, ◌⊎◌, List, length, arith, ap, subst, sym, ◌∙◌, inl, inr}
+use Rattle.std.proofs.Common.{◌≡◌, ℕ, ◌+◌, ◌-◌, ◌*◌, ◌/◌, ◌%◌, ◌<◌, ◌≤◌, ◌⊎◌, List, length, arith, ap, subst, sym, ◌∙◌, inl, inr, ⊎_elim}
 use Rattle.std.specs.Prelude.{◌≢◌}
 use Rattle.std.proofs.lemmas.Bool.{cases_eq, cases_lt}
 use Rattle.flash_words.specs.declared.layout.Layout.{Layout}
-use Rattle.sram_layout.specs.Bytes.{byte_count, byte_at, with_word}
+use Rattle.sram_layout.specs.Bytes.{byte_count, byte_at}
 use Rattle.sram_layout.specs.Cells.{entry_at, with_entry, way_cell}
 use Rattle.sram_layout.proofs.Laws.{byte_out_of_word}
 use Rattle.sram_layout.proofs.CellLaws.{length-with_entry, entry_same, entry_other}
 use Rattle.addr_tables.specs.Tables.{IsHeld, IsTables}
 use Rattle.addr_tables.specs.Changes.{entry_cell, KeepsRest}
-use Rattle.base_laws.proofs.Numbers.{unequal}
+use Rattle.base.proofs.Numbers.{unequal}
 
 -- a set's entries in that row
 pub way_cell_is : (set which : ℕ) → way_cell set which ≡ entry_cell (32 + 2 * set + which)
@@ -21,17 +21,11 @@ pub data IsNumber (k : ℕ) : Type 0 where
   Way : (set which : ℕ) → set < 64 → which < 2 → 32 + 2 * set + which ≡ k → IsNumber k
 
 pub number_of : (k : ℕ) → k < 160 → IsNumber k
-number_of k below = elim (cases_lt k 32) [
-  | inl aside ↦ Aside aside
-  | inr way ↦ Way ((k - 32) / 2) ((k - 32) % 2) (omega arith) (omega arith) (omega arith)
-]
+number_of k below = ⊎_elim Aside (λ way. Way ((k - 32) / 2) ((k - 32) % 2) (omega arith) (omega arith) (omega arith)) (cases_lt k 32)
 
 -- two entries of the row don't overlap
 pub apart_cells : (k j : ℕ) → j ≢ k → (entry_cell j + 4 ≤ entry_cell k) ⊎ (entry_cell k + 4 ≤ entry_cell j)
-apart_cells k j apart = elim (cases_lt j k) [
-  | inl lower ↦ inl (omega arith)
-  | inr level ↦ inr (omega (arith, unequal j k apart level))
-]
+apart_cells k j apart = ⊎_elim (λ lower. inl (omega arith)) (λ level. inr (omega (arith, unequal j k apart level))) (cases_lt j k)
 
 -- the entry that is written, and another
 pub written : (m : List ℕ) (k t place : ℕ) → length m ≡ byte_count → k < 160 → entry_at (with_entry m (entry_cell k) t place) (entry_cell k) ≡ (t, place)
@@ -43,7 +37,7 @@ not_written m k j t place apart = entry_other m (entry_cell k) (entry_cell j) t 
 -- a byte outside the entry that is written
 pub byte_not_written : (m : List ℕ) (a b t place : ℕ) → 0x0100 ≤ a → 0x0100 ≤ b → (b < a) ⊎ (a + 4 ≤ b) → byte_at (with_entry m a t place) b ≡ byte_at m b
 byte_not_written m a b t place from from' outside =
-    byte_out_of_word (with_word m a t) (a + 2) b place (omega arith) from' (λ same. elim outside [ inl low ↦ omega arith | inr high ↦ omega arith ]) (λ same. elim outside [ inl low ↦ omega arith | inr high ↦ omega arith ])
+    byte_out_of_word _ _ _ _ (omega arith) from' (λ same. elim outside [ inl low ↦ omega arith | inr high ↦ omega arith ]) (λ same. elim outside [ inl low ↦ omega arith | inr high ↦ omega arith ])
     ∙ byte_out_of_word m a b t from from' (λ same. elim outside [ inl low ↦ omega arith | inr high ↦ omega arith ]) (λ same. elim outside [ inl low ↦ omega arith | inr high ↦ omega arith ])
 
 -- the bytes outside both tables
@@ -59,9 +53,7 @@ AllEntries P m = (k : ℕ) → k < 160 → P (entry_at m (entry_cell k))
 
 pub all_written : (P : ℕ × ℕ → Type 0) (m : List ℕ) (k t place : ℕ) → length m ≡ byte_count → k < 160 → P (t, place) → AllEntries P m → AllEntries P (with_entry m (entry_cell k) t place)
 all_written P m k t place long below here all = λ j near. elim (cases_eq j k) [
-  | inl same ↦
-      let Q : ℕ → Type 0 = λ i. P (entry_at (with_entry m (entry_cell k) t place) (entry_cell i)) in
-      subst Q (sym same) (subst P (sym (written m k t place long below)) here)
+  | inl same ↦ rw same (subst P (sym (written m k t place long below)) here)
   | inr apart ↦ subst P (sym (not_written m k j t place apart)) (all j near)
 ]
 

@@ -6,7 +6,6 @@ use Rattle.flash_words.specs.Pages.{page_words}
 use Rattle.flash_words.specs.declared.layout.Layout.{Layout}
 use Rattle.sram_layout.specs.Bytes.{byte_count, byte_at, data_word_at}
 use Rattle.sram_layout.specs.Cells.{entry_at, with_entry, way_cell}
-use Rattle.page_index.specs.Entries.{IsEntry}
 use Rattle.addr_tables.specs.Tables.{IsHeld, IsTables}
 use Rattle.addr_tables.specs.Changes.{entry_cell, KeepsRest, is_in, IsIn, without_entry, Forgets, HasNoneIn, StaysOutside}
 use Rattle.sram_layout.proofs.RegionLaws.{outside_same, outside_then}
@@ -28,14 +27,14 @@ pub bytes_stay : (m m' : List ℕ) (a : ℕ) → ((b : ℕ) → b < 4 → byte_a
 bytes_stay m m' a same =
     entry_bytes m' a
     ∙ ap₂ (λ x y. entry_of_bytes x y (byte_at m' (a + 2)) (byte_at m' (a + 3))) (same 0 (omega arith)) (same 1 (omega arith))
-    ∙ ap₂ (λ x y. entry_of_bytes (byte_at m (a + 0)) (byte_at m (a + 1)) x y) (same 2 (omega arith)) (same 3 (omega arith))
+    ∙ ap₂ (entry_of_bytes (byte_at m (a + 0)) (byte_at m (a + 1))) (same 2 (omega arith)) (same 3 (omega arith))
     ∙ sym (entry_bytes m a)
 
 pub bytes_zero : (m : List ℕ) (a : ℕ) → ((b : ℕ) → b < 4 → byte_at m (a + b) ≡ 0) → entry_at m a ≡ (0, 0)
 bytes_zero m a zero =
     entry_bytes m a
     ∙ ap₂ (λ x y. entry_of_bytes x y (byte_at m (a + 2)) (byte_at m (a + 3))) (zero 0 (omega arith)) (zero 1 (omega arith))
-    ∙ ap₂ (λ x y. entry_of_bytes 0 0 x y) (zero 2 (omega arith)) (zero 3 (omega arith))
+    ∙ ap₂ (entry_of_bytes 0 0) (zero 2 (omega arith)) (zero 3 (omega arith))
 
 -- the bytes of an entry that is emptied
 emptied_bytes : (m : List ℕ) (k b : ℕ) → length m ≡ byte_count → k < 160 → b < 4 → byte_at (with_entry m (entry_cell k) 0 0) (entry_cell k + b) ≡ 0
@@ -51,12 +50,14 @@ abbrev left : Bool → ℕ → ℕ
 left b byte = cond b 0 byte
 
 -- one entry
-without_here : (m : List ℕ) (page k b : ℕ) → length m ≡ byte_count → k < 160 → b < 4 → byte_at (without_entry m page (entry_cell k)) (entry_cell k + b) ≡ left (is_in page (entry_at m (entry_cell k))) (byte_at m (entry_cell k + b))
+without_here : (m : List ℕ) (page k b : ℕ) → length m ≡ byte_count → k < 160 → b < 4
+    → byte_at (without_entry m page (entry_cell k)) (entry_cell k + b) ≡ left (is_in page (entry_at m (entry_cell k))) (byte_at m (entry_cell k + b))
 unfolding without_entry
-without_here m page k b long below near = elim (is_in page (entry_at m (entry_cell k))) as (λ t. byte_at (cond t (with_entry m (entry_cell k) 0 0) m) (entry_cell k + b) ≡ left t (byte_at m (entry_cell k + b))) [
-  | true ↦ emptied_bytes m k b long below near
-  | false ↦ refl
-]
+without_here m page k b long below near =
+    elim (is_in page (entry_at m (entry_cell k))) as (λ t. byte_at (cond t (with_entry m (entry_cell k) 0 0) m) (entry_cell k + b) ≡ left t (byte_at m (entry_cell k + b))) [
+      | true ↦ emptied_bytes m k b long below near
+      | false ↦ refl
+    ]
 
 without_there : (m : List ℕ) (page k j b : ℕ) → j ≢ k → b < 4 → byte_at (without_entry m page (entry_cell k)) (entry_cell j + b) ≡ byte_at m (entry_cell j + b)
 unfolding without_entry
@@ -84,8 +85,7 @@ forgets_more page n old mid long room before =
     record {
       first = λ k b lower below near. elim (cases_eq k n) [
         | inl here ↦
-            let P : ℕ → Type 0 = λ i. byte_at (without_entry mid page (entry_cell n)) (entry_cell i + b) ≡ left (is_in page (entry_at old (entry_cell i))) (byte_at old (entry_cell i + b)) in
-            subst P (sym here) (without_here mid page n b long room near ∙ ap₂ (λ entry byte. left (is_in page entry) byte) same (before.others n b (omega arith) room near))
+            rw here (without_here mid page n b long room near ∙ ap₂ (λ entry byte. left (is_in page entry) byte) same (before.others n b (omega arith) room near))
         | inr apart ↦ without_there mid page n k b apart near ∙ before.first k b (omega arith) below near
       ];
       others = λ k b from below near. without_there mid page n k b (λ same. omega arith) near ∙ before.others k b (omega arith) below near;
@@ -93,14 +93,15 @@ forgets_more page n old mid long room before =
     }
 
 -- one more, as the loops number it
-pub forgets_aside : (page n : ℕ) (old mid new : List ℕ) → length mid ≡ byte_count → n < 32 → ForgetsFirst page n old mid → new ≡ without_entry mid page (entry_cell n) → ForgetsFirst page (n + 1) old new
-forgets_aside page n old mid new long room before is =
-    subst (λ (m : List ℕ). ForgetsFirst page (n + 1) old m) (sym is) (forgets_more page n old mid long (omega arith) before)
+pub forgets_aside : (page n : ℕ) (old mid new : List ℕ) → length mid ≡ byte_count → n < 32 → ForgetsFirst page n old mid → new ≡ without_entry mid page (entry_cell n)
+    → ForgetsFirst page (n + 1) old new
+forgets_aside page n old mid new long room before is = rw is (forgets_more page n old mid long (omega arith) before)
 
-pub forgets_way : (page set which : ℕ) (old mid new : List ℕ) → length mid ≡ byte_count → set < 64 → which < 2 → ForgetsFirst page (32 + 2 * set + which) old mid → new ≡ without_entry mid page (way_cell set which) → ForgetsFirst page (32 + 2 * set + which + 1) old new
+pub forgets_way : (page set which : ℕ) (old mid new : List ℕ) → length mid ≡ byte_count → set < 64 → which < 2 → ForgetsFirst page (32 + 2 * set + which) old mid
+    → new ≡ without_entry mid page (way_cell set which) → ForgetsFirst page (32 + 2 * set + which + 1) old new
 forgets_way page set which old mid new long near near' before is =
     let n = 32 + 2 * set + which in
-    subst (λ (m : List ℕ). ForgetsFirst page (n + 1) old m) (sym (is ∙ ap (without_entry mid page) (way_cell_is set which))) (forgets_more page n old mid long (omega arith) before)
+    rw (is ∙ ap (without_entry mid page) (way_cell_is set which)) (forgets_more page n old mid long (omega arith) before)
 
 -- all of them
 pub forgets_all : (page n : ℕ) (old new : List ℕ) → 160 ≤ n → ForgetsFirst page n old new → Forgets page old new
@@ -129,19 +130,17 @@ pub forgets_gone : (page : ℕ) (old new : List ℕ) → Forgets page old new �
 forgets_gone page old new forgets k below = none_in page _ _ (forgets_entry page k old new below forgets)
 
 -- right tables are right still, for each flash that keeps the entries outside the page
-held_outside : (layout : Layout) (words words' : List ℕ) (page : ℕ) (old new : ℕ × ℕ) → StaysOutside layout words words' page → Forgotten page old new → IsHeld layout words old → IsHeld layout words' new
+held_outside : (layout : Layout) (words words' : List ℕ) (page : ℕ) (old new : ℕ × ℕ) → StaysOutside layout words words' page → Forgotten page old new → IsHeld layout words old
+    → IsHeld layout words' new
 held_outside layout words words' page old new stays (Forgotten.Emptied inside empty) held full = absurd (full (ap (λ (entry : ℕ × ℕ). entry.1) empty))
 held_outside layout words words' page old new stays (Forgotten.Stayed outside same) held full =
-    subst (λ (entry : ℕ × ℕ). IsEntry layout words' entry.0 entry.1) (sym same) (stays old.0 old.1 (held (subst (λ (entry : ℕ × ℕ). entry.1 ≢ 0) same full)) outside)
+    rw same (stays old.0 old.1 (held (rw same at full)) outside)
 
-pub forgets_tables : (layout : Layout) (words words' : List ℕ) (page : ℕ) (old new : List ℕ) → Forgets page old new → StaysOutside layout words words' page → IsTables layout old words → IsTables layout new words'
+pub forgets_tables : (layout : Layout) (words words' : List ℕ) (page : ℕ) (old new : List ℕ) → Forgets page old new → StaysOutside layout words words' page → IsTables layout old words
+    → IsTables layout new words'
 forgets_tables layout words words' page old new forgets stays tables =
     all_tables layout new words' (λ k below. held_outside layout words words' page _ _ stays (forgets_entry page k old new below forgets) (tables_all layout old words tables k below))
 
 -- no entry has its place there, and nothing changes
 pub forgets_none : (page : ℕ) (m : List ℕ) → ((k : ℕ) → k < 160 → ¬ IsIn page (entry_at m (entry_cell k))) → Forgets page m m
-forgets_none page m none = record {
-  emptied = λ k b below near is. absurd (none k below is);
-  stays = λ k b below near out. refl;
-  rest = outside_same m;
-}
+forgets_none page m none = record { emptied = λ k b below near is. absurd (none k below is); stays = λ k b below near out. refl; rest = outside_same m }

@@ -33,7 +33,7 @@ moved m t place =
 moved_is : (m : List ℕ) (t place : ℕ) → moved_to_front m t place ≡ moved m t place
 moved_is m t place =
     let P : ℕ → ℕ → List ℕ = λ a b. (let first = entry_at m a in with_entry (with_entry m b first.0 first.1) a t place) in
-    ap (λ a. P a (way_of t 1)) (first_is t) ∙ ap (λ b. P (entry_cell (first_of_set t)) b) (second_is t)
+    ap (λ a. P a (way_of t 1)) (first_is t) ∙ ap (P (entry_cell (first_of_set t))) (second_is t)
 
 length-moved : (m : List ℕ) (t place : ℕ) → length (moved m t place) ≡ length m
 length-moved m t place = length-with_entry _ _ t place ∙ length-with_entry m _ _ _
@@ -107,47 +107,47 @@ either_true : (b : Bool) (m m' : List ℕ) → cond (b || true) m m' ≡ m
 either_true true m m' = refl
 either_true false m m' = refl
 
--- the set where it has the pair, and where it hasn't
-stays_by : (m : List ℕ) (t place : ℕ) → SetHas m t place → noted_in_set m t place ≡ m
-unfolding noted_in_set
-stays_by m t place either = elim either [
-  | inl first ↦ ap (λ b. cond (b || is_pair (entry_at m (way_of t 1)) t place) m (moved_to_front m t place)) (pair_true (entry_at m (way_of t 0)) t place first)
-  | inr second ↦ ap (λ b. cond (is_pair (entry_at m (way_of t 0)) t place || b) m (moved_to_front m t place)) (pair_true (entry_at m (way_of t 1)) t place second) ∙ either_true (is_pair (entry_at m (way_of t 0)) t place) m (moved_to_front m t place)
-]
+module _ (m : List ℕ) (t place : ℕ) where
+  -- the set where it has the pair, and where it hasn't
+  stays_by : SetHas m t place → noted_in_set m t place ≡ m
+  unfolding noted_in_set
+  stays_by either = elim either [
+    | inl first ↦ ap (λ b. cond (b || is_pair (entry_at m (way_of t 1)) t place) m (moved_to_front m t place)) (pair_true (entry_at m (way_of t 0)) t place first)
+    | inr second ↦ ap (λ b. cond (is_pair (entry_at m (way_of t 0)) t place || b) m (moved_to_front m t place)) (pair_true _ _ _ second)
+        ∙ either_true (is_pair (entry_at m (way_of t 0)) t place) m (moved_to_front m t place)
+  ]
 
-moves_by : (m : List ℕ) (t place : ℕ) → ¬ SetHas m t place → noted_in_set m t place ≡ moved m t place
-unfolding noted_in_set
-moves_by m t place neither =
-    ap (λ b. cond (b || is_pair (entry_at m (way_of t 1)) t place) m (moved_to_front m t place)) (pair_false (entry_at m (way_of t 0)) t place (λ same. neither (inl same)))
-    ∙ ap (λ b. cond b m (moved_to_front m t place)) (pair_false (entry_at m (way_of t 1)) t place (λ same. neither (inr same)))
-    ∙ moved_is m t place
+  moves_by : ¬ SetHas m t place → noted_in_set m t place ≡ moved m t place
+  unfolding noted_in_set
+  moves_by neither =
+      ap (λ b. cond (b || is_pair (entry_at m (way_of t 1)) t place) m (moved_to_front m t place)) (pair_false (entry_at m (way_of t 0)) t place (λ same. neither (inl same)))
+      ∙ ap (λ b. cond b m (moved_to_front m t place)) (pair_false (entry_at m (way_of t 1)) t place (λ same. neither (inr same)))
+      ∙ moved_is m t place
 
--- an entry of the two-way table after the look-aside entry is written
-aside_apart : (m : List ℕ) (t place which : ℕ) → which < 2 → entry_at (with_entry m (aside_of t) t place) (way_of t which) ≡ entry_at m (way_of t which)
-aside_apart m t place which below =
-    let Q : ℕ → Type 0 = λ a. entry_at (with_entry m (aside_of t) t place) a ≡ entry_at m a in
-    subst Q (sym (way_cell_is (t % 64) which)) (not_written m (t % 32) (32 + 2 * (t % 64) + which) t place (λ same. omega arith))
+  -- an entry of the two-way table after the look-aside entry is written
+  aside_apart : (which : ℕ) → which < 2 → entry_at (with_entry m (aside_of t) t place) (way_of t which) ≡ entry_at m (way_of t which)
+  aside_apart which below = rw (way_cell_is (t % 64) which) (not_written m (t % 32) (32 + 2 * (t % 64) + which) t place (λ same. omega arith))
 
-moved_first : (m : List ℕ) (t place : ℕ) → length m ≡ byte_count → entry_at (moved m t place) (way_of t 0) ≡ (t, place)
-moved_first m t place long =
-    let k = first_of_set t in
-    let first = entry_at m (entry_cell k) in
-    ap (entry_at (moved m t place)) (first_is t) ∙ written (with_entry m (entry_cell (k + 1)) first.0 first.1) k t place (length-with_entry m (entry_cell (k + 1)) first.0 first.1 ∙ long) (omega arith)
+  moved_first : length m ≡ byte_count → entry_at (moved m t place) (way_of t 0) ≡ (t, place)
+  moved_first long =
+      let k = first_of_set t in
+      let first = entry_at m (entry_cell k) in
+      ap (entry_at (moved m t place)) (first_is t) ∙ written _ _ _ _ (length-with_entry m (entry_cell (k + 1)) first.0 first.1 ∙ long) (omega arith)
 
-moved_second : (m : List ℕ) (t place : ℕ) → length m ≡ byte_count → entry_at (moved m t place) (way_of t 1) ≡ entry_at m (way_of t 0)
-moved_second m t place long =
-    let k = first_of_set t in
-    let first = entry_at m (entry_cell k) in
-    ap (entry_at (moved m t place)) (second_is t)
-    ∙ not_written (with_entry m (entry_cell (k + 1)) first.0 first.1) k (k + 1) t place (λ same. omega arith)
-    ∙ written m (k + 1) first.0 first.1 long (omega arith)
-    ∙ ap (entry_at m) (sym (first_is t))
+  moved_second : length m ≡ byte_count → entry_at (moved m t place) (way_of t 1) ≡ entry_at m (way_of t 0)
+  moved_second long =
+      let k = first_of_set t in
+      let first = entry_at m (entry_cell k) in
+      ap (entry_at (moved m t place)) (second_is t)
+      ∙ not_written (with_entry m (entry_cell (k + 1)) first.0 first.1) k (k + 1) t place (λ same. omega arith)
+      ∙ written m (k + 1) first.0 first.1 long (omega arith)
+      ∙ ap (entry_at m) (sym (first_is t))
 
-moved_other : (m : List ℕ) (t place j : ℕ) → j ≢ first_of_set t → j ≢ first_of_set t + 1 → entry_at (moved m t place) (entry_cell j) ≡ entry_at m (entry_cell j)
-moved_other m t place j apart apart' =
-    let k = first_of_set t in
-    let first = entry_at m (entry_cell k) in
-    not_written (with_entry m (entry_cell (k + 1)) first.0 first.1) k j t place apart ∙ not_written m (k + 1) j first.0 first.1 apart'
+  moved_other : (j : ℕ) → j ≢ first_of_set t → j ≢ first_of_set t + 1 → entry_at (moved m t place) (entry_cell j) ≡ entry_at m (entry_cell j)
+  moved_other j apart apart' =
+      let k = first_of_set t in
+      let first = entry_at m (entry_cell k) in
+      not_written (with_entry m (entry_cell (k + 1)) first.0 first.1) k j t place apart ∙ not_written m (k + 1) j first.0 first.1 apart'
 
 -- entry by entry
 pub noted_notes : (m : List ℕ) (t place : ℕ) → length m ≡ byte_count → Notes t place m (noted m t place)

@@ -32,7 +32,8 @@ same_entry sram sram' a from to same =
 
 -- The tables stay right where their own bytes stay and each entry of the pool stays, whatever else changes in SRAM
 -- and flash.
-pub tables_kept : (layout : Layout) (sram sram' words words' : List ℕ) → ((a : ℕ) → 0x0180 ≤ a → a < 0x0400 → byte_at sram' a ≡ byte_at sram a) → ((t v : ℕ) → IsEntry layout words t v → IsEntry layout words' t v) → IsTables layout sram words → IsTables layout sram' words'
+pub tables_kept : (layout : Layout) (sram sram' words words' : List ℕ) → ((a : ℕ) → 0x0180 ≤ a → a < 0x0400 → byte_at sram' a ≡ byte_at sram a)
+    → ((t v : ℕ) → IsEntry layout words t v → IsEntry layout words' t v) → IsTables layout sram words → IsTables layout sram' words'
 tables_kept layout sram sram' words words' same stays tables =
     let kept : (entry : ℕ × ℕ) → IsHeld layout words entry → IsHeld layout words' entry = λ entry held full. stays entry.0 entry.1 (held full) in
     record {

@@ -3,13 +3,10 @@ use Rattle.std.proofs.Common.{◌≡◌, ℕ, ◌+◌, ◌-◌, ◌≤◌, get_o
 use Rattle.std.specs.Prelude.{◌&&◌}
 use Rattle.std.specs.List.{list_all, list_any}
 use Rattle.std.proofs.lemmas.List.{take-append-drop, drop_more, drop_all}
-use Rattle.std.proofs.lemmas.Bool.Decides.{nat_tests}
-use Rattle.std.proofs.lemmas.Bool.{ne_eqb}
-use Rattle.line_reader.specs.Cutting.{Lacks}
+use Rattle.std.proofs.lemmas.List.Folds.{list_all-append}
+use Rattle.std.proofs.lemmas.Bool.{and_right, eq-eqb, ne_eqb}
+use Rattle.text_lines.specs.Cutting.{Lacks}
 use Rattle.avr_asm.specs.Cuts.{is_blank, before, behind, skip_end, front_word, behind_word}
-
-like : (byte : ℕ) → eqb byte byte ≡ true
-like byte = grind (arith, nat_tests)
 
 -- a text in which a byte doesn't stand
 pub before_lacking : (byte : ℕ) (text : List ℕ) → Lacks byte text → before byte text ≡ text
@@ -18,37 +15,21 @@ before_lacking byte (b ∷ text) lacks = rw (ne_eqb b byte lacks.0) (ap (λ rest
 
 -- a text that is cut at a byte's first position
 pub before_cut : (byte : ℕ) (front rest : List ℕ) → Lacks byte front → before byte (front ++ byte ∷ rest) ≡ front
-before_cut byte [] rest lacks = rw (like byte) refl
+before_cut byte [] rest lacks = rw (eq-eqb byte byte refl) refl
 before_cut byte (b ∷ front) rest lacks = rw (ne_eqb b byte lacks.0) (ap (λ back. b ∷ back) (before_cut byte front rest lacks.1))
-
--- a text with one more byte at its end: it is all blank where both are
-and_both : (x y z : Bool) → (x && (y && z)) ≡ ((x && y) && z)
-and_both true y z = refl
-and_both false y z = refl
 
 and_true : (x : Bool) → (x && true) ≡ x
 and_true true = refl
 and_true false = refl
 
-and_false : (x : Bool) → (x && false) ≡ false
-and_false true = refl
-and_false false = refl
-
-all_more : (text : List ℕ) (b : ℕ) → list_all is_blank (text ++ b ∷ []) ≡ (list_all is_blank text && is_blank b)
-all_more [] b = and_true (is_blank b)
-all_more (first ∷ text) b = ap (λ (rest : Bool). is_blank first && rest) (all_more text b) ∙ and_both (is_blank first) (list_all is_blank text) (is_blank b)
-
+-- a text with one more byte at its end: it is all blank where both are
 pub skip_blank_end : (text : List ℕ) (b : ℕ) → is_blank b ≡ true → skip_end (text ++ b ∷ []) ≡ skip_end text
 skip_blank_end [] b blank = rw blank refl
-skip_blank_end (first ∷ text) b blank =
-    let all : list_all is_blank (text ++ b ∷ []) ≡ list_all is_blank text = all_more text b ∙ ap (λ (last : Bool). list_all is_blank text && last) blank ∙ and_true (list_all is_blank text) in
-    ap (λ (all' : Bool). cond (is_blank first && all') [] (first ∷ skip_end (text ++ b ∷ []))) all ∙ ap (λ rest. cond (is_blank first && list_all is_blank text) [] (first ∷ rest)) (skip_blank_end text b blank)
+skip_blank_end (first ∷ text) b blank = rw (list_all-append is_blank text (b ∷ []), blank, and_true (list_all is_blank text), skip_blank_end text b blank) refl
 
 pub keep_end : (text : List ℕ) (b : ℕ) → is_blank b ≡ false → skip_end (text ++ b ∷ []) ≡ text ++ b ∷ []
 keep_end [] b shown = rw shown refl
-keep_end (first ∷ text) b shown =
-    let all : list_all is_blank (text ++ b ∷ []) ≡ false = all_more text b ∙ ap (λ (last : Bool). list_all is_blank text && last) shown ∙ and_false (list_all is_blank text) in
-    ap (λ (all' : Bool). cond (is_blank first && all') [] (first ∷ skip_end (text ++ b ∷ []))) all ∙ ap (λ (blank : Bool). cond blank [] (first ∷ skip_end (text ++ b ∷ []))) (and_false (is_blank first)) ∙ ap (λ rest. first ∷ rest) (keep_end text b shown)
+keep_end (first ∷ text) b shown = rw (list_all-append is_blank text (b ∷ []), shown, and_right (list_all is_blank text) false refl, and_right (is_blank first) false refl, keep_end text b shown) refl
 
 -- a text and its last byte
 last_off : (text : List ℕ) → 1 ≤ length text → text ≡ take (length text - 1) text ++ get_or text (length text - 1) 0 ∷ []
@@ -64,7 +45,8 @@ pub keep_last : (text : List ℕ) → 1 ≤ length text → is_blank (get_or tex
 keep_last text some shown = sym (ap skip_end (last_off text some) ∙ keep_end (take (length text - 1) text) _ shown ∙ sym (last_off text some))
 
 -- the first word of a text
-word_take : (blank : Bool) (b : ℕ) (text : List ℕ) → take (length (front_word text)) text ≡ front_word text → take (length (cond blank [] (b ∷ front_word text))) (b ∷ text) ≡ cond blank [] (b ∷ front_word text)
+word_take : (blank : Bool) (b : ℕ) (text : List ℕ) → take (length (front_word text)) text ≡ front_word text
+    → take (length (cond blank [] (b ∷ front_word text))) (b ∷ text) ≡ cond blank [] (b ∷ front_word text)
 word_take true b text rest = refl
 word_take false b text rest = ap (λ t. b ∷ t) rest
 
@@ -72,7 +54,8 @@ pub taken_word : (text : List ℕ) → take (length (front_word text)) text ≡ 
 taken_word [] = refl
 taken_word (b ∷ text) = word_take (is_blank b) b text (taken_word text)
 
-word_drop : (blank : Bool) (b : ℕ) (text : List ℕ) → drop (length (front_word text)) text ≡ behind_word text → drop (length (cond blank [] (b ∷ front_word text))) (b ∷ text) ≡ cond blank (b ∷ text) (behind_word text)
+word_drop : (blank : Bool) (b : ℕ) (text : List ℕ) → drop (length (front_word text)) text ≡ behind_word text
+    → drop (length (cond blank [] (b ∷ front_word text))) (b ∷ text) ≡ cond blank (b ∷ text) (behind_word text)
 word_drop true b text rest = refl
 word_drop false b text rest = rest
 
@@ -82,11 +65,11 @@ dropped_word (b ∷ text) = word_drop (is_blank b) b text (dropped_word text)
 
 -- a byte's first position cuts a text
 pub behind_cut : (byte : ℕ) (front rest : List ℕ) → Lacks byte front → behind byte (front ++ byte ∷ rest) ≡ rest
-behind_cut byte [] rest lacks = rw (like byte) refl
+behind_cut byte [] rest lacks = rw (eq-eqb byte byte refl) refl
 behind_cut byte (b ∷ front) rest lacks = rw (ne_eqb b byte lacks.0) (behind_cut byte front rest lacks.1)
 
 pub some_cut : (byte : ℕ) (front rest : List ℕ) → Lacks byte front → list_any (λ b. eqb b byte) (front ++ byte ∷ rest) ≡ true
-some_cut byte [] rest lacks = rw (like byte) refl
+some_cut byte [] rest lacks = rw (eq-eqb byte byte refl) refl
 some_cut byte (b ∷ front) rest lacks = rw (ne_eqb b byte lacks.0) (some_cut byte front rest lacks.1)
 
 pub none_lacking : (byte : ℕ) (text : List ℕ) → Lacks byte text → list_any (λ b. eqb b byte) text ≡ false

@@ -1,8 +1,8 @@
 -- The first pass: its start, and one line more.
 use Rattle.std.proofs.Common.{◌≡◌, ℕ, ◌+◌, List, [], ◌∷◌, ap, refl, sym, ◌∙◌, arith}
-use Rattle.line_reader.specs.Lines.{lines_of}
-use Rattle.line_reader.specs.Faults.{after_lines}
-use Rattle.line_reader.proofs.FaultLaws.{fault_behind}
+use Rattle.text_lines.specs.Lines.{lines_of}
+use Rattle.text_lines.specs.Faults.{after_lines}
+use Rattle.text_lines.proofs.FaultLaws.{fault_behind}
 use Rattle.avr_asm.specs.declared.first_pass.Pass.{Pass}
 use Rattle.avr_asm.specs.Addresses.{start, after, fault_at}
 use Rattle.avr_asm.specs.declared.labels.Labels.{Labels}
@@ -18,8 +18,9 @@ first_part_start text labels none = record {
   ends = refl;
 }
 
-pub first_part_more : (text line rest behind : List ℕ) (number : ℕ) (old new : Pass) → IsFirstPart text rest number old → lines_of rest ≡ line ∷ lines_of behind → IsTaken line old new → IsFirstPart text behind (number + 1) new
-first_part_more text line rest behind number old new part cut taken =
+pub first_part_more : {text line rest behind : List ℕ} {number : ℕ} {old new : Pass} → IsFirstPart text rest number old → lines_of rest ≡ line ∷ lines_of behind → IsTaken line old new
+    → IsFirstPart text behind (number + 1) new
+first_part_more {line} {rest} {behind} {number} part cut taken =
     let step = taken part.place part.is in
     record {
       place = after part.place line;

@@ -1,11 +1,11 @@
 -- A text has one list of words.
-use Rattle.std.proofs.Common.{◌≡◌, ℕ, ◌+◌, ◌<◌, ◌≤◌, List, [], ◌∷◌, length, drop, ap₂, refl, subst, sym, ◌∙◌, arith}
+use Rattle.std.proofs.Common.{◌≡◌, ℕ, ◌+◌, ◌<◌, ◌≤◌, List, [], ◌∷◌, length, drop, ap₂, refl, sym, ◌∙◌, arith}
 use Rattle.std.specs.Prelude.{None, Some, Option, Result, Ok, Err, MatchOption}
 use Rattle.std.specs.Bool.{⊤}
 use Rattle.std.specs.Result.{IsOkAnd}
 use Rattle.std.proofs.lemmas.List.{drop_more, drop_all}
 use Rattle.std.proofs.lemmas.Option.{get_or_from_slice_get, slice_get_within}
-use Rattle.line_reader.specs.Lines.{lines_of}
+use Rattle.text_lines.specs.Lines.{lines_of}
 use Rattle.avr_isa.specs.declared.form.Form.{Form}
 use Rattle.avr_isa.specs.Encoding.{second_word}
 use Rattle.avr_isa.specs.Image.{word}
@@ -33,36 +33,33 @@ by_second : (second : Option ℕ) (a b : List ℕ) (at : ℕ) → at + words_by 
 by_second None a b at in_a in_b first there_a there_b rest = word_step a b at (omega arith) (omega arith) first rest
 by_second (Some s) a b at in_a in_b first there_a there_b rest =
     let two : at + 2 ≡ (at + 1) + 1 = omega arith in
-    word_step a b at (omega arith) (omega arith) first
-    (word_step a b (at + 1) (omega arith) (omega arith) (there_a ∙ sym there_b) (subst (SameFrom a b) two rest))
+    word_step a b at (omega arith) (omega arith) first (word_step a b (at + 1) (omega arith) (omega arith) (there_a ∙ sym there_b) (rw two at rest))
 
 instruction_step : (a b : List ℕ) (at : ℕ) (form : Form) → IsInstruction a at form → IsInstruction b at form → SameFrom a b (at + size_of form) → SameFrom a b at
 instruction_step a b at form is_a is_b rest =
     let size = size_by form in
     let row_a = is_a.decoded.row.1 in
     let row_b = is_b.decoded.row.1 in
-    by_second (second_word form) a b at
-    (subst (λ n. at + n ≤ length a) size is_a.inside)
-    (subst (λ n. at + n ≤ length b) size is_b.inside)
-    (row_a.opcode ∙ sym row_b.opcode) row_a.address row_b.address
-    (subst (λ n. SameFrom a b (at + n)) size rest)
+    by_second (second_word form) a b at (rw size at is_a.inside) (rw size at is_b.inside) (row_a.opcode ∙ sym row_b.opcode) row_a.address row_b.address (rw size at rest)
 
-jump_step : (a b : List ℕ) (at size : ℕ) (jump : Result Form AsmFault) → ((form : Form) → jump ≡ Ok form → size_of form ≡ size) → IsOkAnd jump (IsInstruction a at) → IsOkAnd jump (IsInstruction b at) → SameFrom a b (at + size) → SameFrom a b at
-jump_step a b at size (Ok form) sized is_a is_b rest = instruction_step a b at form is_a is_b (subst (λ n. SameFrom a b (at + n)) (sym (sized form refl)) rest)
+jump_step : (a b : List ℕ) (at size : ℕ) (jump : Result Form AsmFault) → ((form : Form) → jump ≡ Ok form → size_of form ≡ size) → IsOkAnd jump (IsInstruction a at) → IsOkAnd jump (IsInstruction b at)
+    → SameFrom a b (at + size) → SameFrom a b at
+jump_step a b at size (Ok form) sized is_a is_b rest = instruction_step a b at form is_a is_b (rw (sized form refl) rest)
 jump_step a b at size (Err fault) sized is_a is_b rest = absurd is_a
 
 statement_step : (labels : List Label) (a b : List ℕ) (at : ℕ) (statement : Option Statement) → IsStatement labels a at statement → IsStatement labels b at statement
     → SameFrom a b (at + words_of_statement statement) → SameFrom a b at
 statement_step labels a b at None is_a is_b rest =
     let none : at + 0 ≡ at = omega arith in
-    subst (SameFrom a b) none rest
+    rw none at rest
 statement_step labels a b at (Some (Word n)) is_a is_b rest =
     word_step a b at (slice_get_within a at n is_a) (slice_get_within b at n is_b) (get_or_from_slice_get a at n 0xFFFF is_a ∙ sym (get_or_from_slice_get b at n 0xFFFF is_b)) rest
 statement_step labels a b at (Some (Ready form)) is_a is_b rest = instruction_step a b at form is_a is_b rest
 statement_step labels a b at (Some (To kind target)) is_a is_b rest =
     jump_step a b at _ (jump_of labels at kind target) (λ form is. jump_words labels at kind target form is) is_a is_b rest
 
-line_step : (labels : List Label) (a b : List ℕ) (place : Place) (line : Result Line AsmFault) → IsOkAnd line (λ said. IsStatement labels a place.at said.statement) → IsOkAnd line (λ said. IsStatement labels b place.at said.statement)
+line_step : (labels : List Label) (a b : List ℕ) (place : Place) (line : Result Line AsmFault) → IsOkAnd line (λ said. IsStatement labels a place.at said.statement)
+    → IsOkAnd line (λ said. IsStatement labels b place.at said.statement)
     → SameFrom a b (behind_line place line).at → SameFrom a b place.at
 line_step labels a b place (Ok line) is_a is_b rest = statement_step labels a b place.at line.statement is_a is_b rest
 line_step labels a b place (Err fault) is_a is_b rest = absurd is_a

@@ -1,20 +1,20 @@
 -- The words of a jump are those that its statement has.
-use Rattle.std.proofs.Common.{◌≡◌, ℕ, ◌+◌, Bool, true, false, cond, List, ◌++◌, length, ap, refl, subst, sym, ◌∙◌}
-use Rattle.std.specs.Prelude.{ℤ, None, Some, Option, Result, Ok, Err}
-use Rattle.std.specs.Result.{IsOkAnd, result_err}
+use Rattle.std.proofs.Common.{◌≡◌, ℕ, ◌+◌, Bool, true, false, cond, List, length, ap, refl, sym, ◌∙◌}
+use Rattle.std.specs.Prelude.{None, Some, Option, Result, Ok, Err}
+use Rattle.std.specs.Result.{result_err}
 use Rattle.avr_isa.specs.declared.form.Form.{Form}
 use Rattle.avr_isa.specs.declared.form.Form.TheVariants as forms
 use Rattle.avr_isa.specs.Instruction.{is_valid, size_of}
 use Rattle.avr_asm.specs.declared.fault.AsmFault.{AsmFault}
 use Rattle.avr_asm.specs.declared.fault.AsmFault.TheVariants.{Reach}
+use Rattle.avr_asm.specs.declared.mnemonic.FlagState.TheVariants.{Set}
 use Rattle.avr_asm.specs.declared.mnemonic.Jump.{Jump}
-use Rattle.avr_asm.specs.declared.mnemonic.Jump.TheVariants.{If, Rjmp, Rcall, Jmp, Call}
+use Rattle.avr_asm.specs.declared.mnemonic.Jump.TheVariants.{If}
 use Rattle.avr_asm.specs.declared.statement.Statement.TheVariants.{To}
 use Rattle.avr_asm.specs.declared.statement.Target.{Target}
 use Rattle.avr_asm.specs.declared.statement.Target.TheVariants as targets
 use Rattle.avr_asm.specs.Addresses.{Label, address_of, words_of_statement}
 use Rattle.avr_asm.specs.Targets.{distance, in_reach, jump_of, jump_to, jump_to_label}
-use Rattle.avr_asm.specs.AsmText.{IsInstruction}
 use Rattle.avr_asm.specs.Passes.{IsAdded, IsAddedInstruction}
 
 abbrev okay : Form → Result Form AsmFault
@@ -35,17 +35,10 @@ reached made form is = sym (ap size_of (reached_if (is_valid made) made form is)
 abbrev words_of_jump : Jump → ℕ
 words_of_jump jump = words_of_statement (Some (To jump (targets.At 0)))
 
-short : (s a : ℕ) (k : ℤ) → (size_of (forms.Brbs s k) ≡ 1) × (size_of (forms.Brbc s k) ≡ 1) × (size_of (forms.Rjmp k) ≡ 1) × (size_of (forms.Rcall k) ≡ 1) × (size_of (forms.Jmp a) ≡ 2) × (size_of (forms.Call a) ≡ 2)
-unfolding size_of
-short s a k = (refl, refl, refl, refl, refl, refl)
-
 jump_size : (jump : Jump) (pc a : ℕ) (form : Form) → in_reach (jump_to jump pc a) ≡ Ok form → size_of form ≡ words_of_jump jump
-jump_size (If true s) pc a form is = reached (forms.Brbs s (distance pc a)) form is ∙ (short s a (distance pc a)).0
-jump_size (If false s) pc a form is = reached (forms.Brbc s (distance pc a)) form is ∙ (short s a (distance pc a)).1
-jump_size Rjmp pc a form is = reached (forms.Rjmp (distance pc a)) form is ∙ (short 0 a (distance pc a)).2
-jump_size Rcall pc a form is = reached (forms.Rcall (distance pc a)) form is ∙ (short 0 a (distance pc a)).3
-jump_size Jmp pc a form is = reached (forms.Jmp a) form is ∙ (short 0 a (distance pc a)).4
-jump_size Call pc a form is = reached (forms.Call a) form is ∙ (short 0 a (distance pc a)).5
+unfolding size_of
+jump_size (If Set s) pc a form is = reached (forms.Brbs s (distance pc a)) form is
+jump_size jump pc a form is = reached (jump_to jump pc a) form is
 
 label_size : (kind : Jump) (pc : ℕ) (address : Option ℕ) (form : Form) → jump_to_label kind pc address ≡ Ok form → size_of form ≡ words_of_jump kind
 label_size kind pc None form is = absurd (cc)
@@ -57,23 +50,20 @@ target_size labels pc kind (targets.Label name) form is = label_size kind pc (ad
 
 -- whatever the target
 any_target : (jump : Jump) (target : Target) → words_of_jump jump ≡ words_of_statement (Some (To jump target))
-any_target (If true s) target = refl
-any_target (If false s) target = refl
-any_target Rjmp target = refl
-any_target Rcall target = refl
-any_target Jmp target = refl
-any_target Call target = refl
+any_target (If state s) target = refl
+any_target _ target = refl
 
 -- an instruction that a jump comes to has as many words as its statement
 pub jump_words : (labels : List Label) (pc : ℕ) (jump : Jump) (target : Target) (form : Form) → jump_of labels pc jump target ≡ Ok form → size_of form ≡ words_of_statement (Some (To jump target))
 jump_words labels pc jump target form is = target_size labels pc jump target form is ∙ any_target jump target
 
 -- a jump's instruction was added
-pub jump_added : (labels : List Label) (jump : Jump) (target : Target) (form : Form) (old new : List ℕ) → jump_of labels (length old) jump target ≡ Ok form → IsAddedInstruction form old new → IsAdded labels (Some (To jump target)) old new
+pub jump_added : (labels : List Label) (jump : Jump) (target : Target) (form : Form) (old new : List ℕ) → jump_of labels (length old) jump target ≡ Ok form → IsAddedInstruction form old new
+    → IsAdded labels (Some (To jump target)) old new
 jump_added labels jump target form old new is added = record {
   code = added.code;
   joined = added.joined;
   size = added.size ∙ ap (λ n. length old + n) (jump_words labels (length old) jump target form is);
-  stands = λ more. subst (λ made. IsOkAnd made (IsInstruction (new ++ more) (length old))) (sym is) (added.stands more);
+  stands = λ more. rw is (added.stands more);
   sound = ap result_err is;
 }

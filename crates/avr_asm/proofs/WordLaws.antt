@@ -1,7 +1,6 @@
 -- Words that were added stand where they were added.
-use Rattle.std.proofs.Common.{◌≡◌, ℕ, ◌+◌, List, [], ◌∷◌, ◌++◌, length, ap, refl, subst, sym, ◌∙◌, arith}
-use Rattle.std.specs.Prelude.{if◌then◌else◌, is_some, None, Some, Option, Result, Ok, Err, OnOk, MatchOption}
-use Rattle.std.specs.Bool.{⊤}
+use Rattle.std.proofs.Common.{◌≡◌, ℕ, ◌+◌, List, [], ◌∷◌, ◌++◌, length, ap, refl, sym, ◌∙◌, arith}
+use Rattle.std.specs.Prelude.{if◌then◌else◌, is_some, None, Some, Option, Result, Ok, Err, OnOk}
 use Rattle.std.proofs.lemmas.List.{append_assoc, length-append, get_or-append-add}
 use Rattle.avr_isa.specs.declared.form.Form.{Form}
 use Rattle.avr_isa.specs.Encoding.{second_word, IsDecoded}
@@ -37,7 +36,8 @@ second_behind old first second more =
     ∙ get_or-append-add old (first ∷ second ∷ more) 1 0xFFFF
 
 -- an instruction of one word
-pub one_added : (form : Form) (code : Words) (old : List ℕ) → code.second ≡ second_word form → ((a b : ℕ) → BeginWith code a b → IsDecoded a b (Some form)) → code.second ≡ None → IsAddedInstruction form old (old ++ code.first ∷ [])
+pub one_added : (form : Form) (code : Words) (old : List ℕ) → code.second ≡ second_word form → ((a b : ℕ) → BeginWith code a b → IsDecoded a b (Some form)) → code.second ≡ None
+    → IsAddedInstruction form old (old ++ code.first ∷ [])
 one_added form code old second decodes none =
     let size : size_of form ≡ 1 = size_by form ∙ ap words_by (sym second ∙ none) in
     record {
@@ -49,13 +49,14 @@ one_added form code old second decodes none =
             inside = omega (arith, length-append (old ++ code.first ∷ []) more, length-append old (code.first ∷ []), size);
             decoded = decodes _ _ (record {
               opcode = first_behind old code.first more;
-              address = subst (λ (o : Option ℕ). MatchOption o ⊤ (λ a. word ((old ++ code.first ∷ []) ++ more) (length old + 1) ≡ a)) (sym none) tt;
+              address = rw none tt;
             });
           };
     }
 
 -- an instruction of two words
-pub two_added : (form : Form) (code : Words) (a : ℕ) (old : List ℕ) → code.second ≡ second_word form → ((a b : ℕ) → BeginWith code a b → IsDecoded a b (Some form)) → code.second ≡ Some a → IsAddedInstruction form old ((old ++ code.first ∷ []) ++ a ∷ [])
+pub two_added : (form : Form) (code : Words) (a : ℕ) (old : List ℕ) → code.second ≡ second_word form → ((a b : ℕ) → BeginWith code a b → IsDecoded a b (Some form)) → code.second ≡ Some a
+    → IsAddedInstruction form old ((old ++ code.first ∷ []) ++ a ∷ [])
 two_added form code a old second decodes some =
     let size : size_of form ≡ 2 = size_by form ∙ ap words_by (sym second ∙ some) in
     record {
@@ -66,10 +67,8 @@ two_added form code a old second decodes some =
           record {
             inside = omega (arith, length-append ((old ++ code.first ∷ []) ++ a ∷ []) more, length-append (old ++ code.first ∷ []) (a ∷ []), length-append old (code.first ∷ []), size);
             decoded = decodes _ _ (record {
-              opcode =
-                  ap (λ words. word words (length old)) (append_assoc (old ++ code.first ∷ []) (a ∷ []) more)
-                  ∙ first_behind old code.first (a ∷ more);
-              address = subst (λ (o : Option ℕ). MatchOption o ⊤ (λ s. word (((old ++ code.first ∷ []) ++ a ∷ []) ++ more) (length old + 1) ≡ s)) (sym some) (second_behind old code.first a more);
+              opcode = rw (append_assoc (old ++ code.first ∷ [])) (first_behind old code.first (a ∷ more));
+              address = rw some (second_behind old code.first a more);
             });
           };
     }

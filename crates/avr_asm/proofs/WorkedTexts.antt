@@ -21,7 +21,8 @@ abbrev AreFaults : List Row → Type 0
 AreFaults rows = map (λ (row : Row). fault_of row.0) rows ≡ map (λ (row : Row). row.1) rows
 
 -- texts without a fault
-sound : AreFaults (
+abbrev sound : List Row
+sound =
     (codes "", None)
     ∷ (codes "\n", None)
     ∷ (codes " \t\r\n", None)
@@ -46,12 +47,10 @@ sound : AreFaults (
     ∷ (codes "jmp 65535", None)
     ∷ (codes "brbs 7, 0", None)
     ∷ []
-    )
-unfolding statement_of operation_of operand_of register_of pointer_of number_of name_of is_name meaning_of is_valid fields_in_range is_undefined size_of
-sound = refl
 
 -- faults of form
-form : AreFaults (
+abbrev form : List Row
+form =
     (codes "MOV r1, r2", Some (1, Form))
     ∷ (codes "foo1", Some (1, Form))
     ∷ (codes "a : nop", Some (1, Form))
@@ -88,12 +87,10 @@ form : AreFaults (
     ∷ (codes "..dw 1", Some (1, Form))
     ∷ (codes ". dw 1", Some (1, Form))
     ∷ []
-    )
-unfolding statement_of operation_of operand_of register_of pointer_of number_of name_of is_name meaning_of is_valid fields_in_range is_undefined size_of
-form = refl
 
 -- unknown mnemonics
-mnemonic : AreFaults (
+abbrev mnemonic : List Row
+mnemonic =
     (codes "mvo r1, r2", Some (1, Mnemonic))
     ∷ (codes "sez", Some (1, Mnemonic))
     ∷ (codes "nop\nfoo 1, X, Y+1, a", Some (2, Mnemonic))
@@ -101,12 +98,10 @@ mnemonic : AreFaults (
     ∷ (codes "clr r1", Some (1, Mnemonic))
     ∷ (codes "a: nops", Some (1, Mnemonic))
     ∷ []
-    )
-unfolding statement_of operation_of operand_of register_of pointer_of number_of name_of is_name meaning_of is_valid fields_in_range is_undefined size_of
-mnemonic = refl
 
 -- operands outside their fields
-range : AreFaults (
+abbrev range : List Row
+range =
     (codes "nop\nldi r15, 1", Some (2, Range))
     ∷ (codes "ld r26, X+", Some (1, Range))
     ∷ (codes "st -Y, r29", Some (1, Range))
@@ -131,12 +126,10 @@ range : AreFaults (
     ∷ (codes "jmp 0xFFFFFFFF", Some (1, Range))
     ∷ (codes ".dw 9999999999", Some (1, Range))
     ∷ []
-    )
-unfolding statement_of operation_of operand_of register_of pointer_of number_of name_of is_name meaning_of is_valid fields_in_range is_undefined size_of
-range = refl
 
 -- labels that were there before, and targets
-behind : AreFaults (
+abbrev behind : List Row
+behind =
     (codes "a: nop\na: nop", Some (2, Twice))
     ∷ (codes "a:\na:", Some (2, Twice))
     ∷ (codes "a: nop\na: ldi r15, 1", Some (2, Range))
@@ -154,17 +147,18 @@ behind : AreFaults (
     ∷ (codes "brne 100\nrjmp far", Some (1, Reach))
     ∷ (codes "nop\nrjmp far\nbrne 100", Some (2, Label))
     ∷ []
-    )
-unfolding statement_of operation_of operand_of register_of pointer_of number_of name_of is_name meaning_of is_valid fields_in_range is_undefined size_of
-behind = refl
 
 -- a name of 64 bytes, and one of 65
 name_64 : List ℕ
 name_64 = replicate 63 97 ++ codes "_"
 
-longest : AreFaults ((name_64 ++ codes ":", None) ∷ (name_64 ++ codes "a:", Some (1, Form)) ∷ (codes "rjmp a" ++ name_64, Some (1, Form)) ∷ [])
+abbrev longest : List Row
+longest = (name_64 ++ codes ":", None) ∷ (name_64 ++ codes "a:", Some (1, Form)) ∷ (codes "rjmp a" ++ name_64, Some (1, Form)) ∷ []
+
+-- each text has its fault
+faulty : AreFaults (sound ++ form ++ mnemonic ++ range ++ behind ++ longest)
 unfolding name_64 statement_of operation_of operand_of register_of pointer_of number_of name_of is_name meaning_of is_valid fields_in_range is_undefined size_of
-longest = refl
+faulty = refl
 
 -- labels have addresses of words, a label behind the last statement the number of words
 labels : labels_of (codes "a: nop\nb: call a\n.dw 1\nc:") ≡ (codes "c", 4) ∷ (codes "b", 1) ∷ (codes "a", 0) ∷ []
@@ -178,7 +172,8 @@ before_last = record { at = 24575; labels = (codes "a", 7) ∷ [] }
 behind_last : Place
 behind_last = record { at = 24576; labels = (codes "a", 7) ∷ [] }
 
-last_lines : fault_at before_last (codes "nop") ∷ fault_at before_last (codes "jmp 0") ∷ fault_at behind_last (codes "b:") ∷ fault_at behind_last (codes "nop") ∷ fault_at behind_last (codes "a: nop") ∷ fault_at behind_last (codes "nops") ∷ []
+last_lines : fault_at before_last (codes "nop") ∷ fault_at before_last (codes "jmp 0") ∷ fault_at behind_last (codes "b:") ∷ fault_at behind_last (codes "nop") ∷ fault_at behind_last (codes "a: nop")
+    ∷ fault_at behind_last (codes "nops") ∷ []
     ≡ None ∷ Some TooLarge ∷ None ∷ Some TooLarge ∷ Some Twice ∷ Some Mnemonic ∷ []
 unfolding before_last behind_last statement_of operation_of operand_of register_of pointer_of number_of name_of is_name meaning_of is_valid fields_in_range is_undefined size_of
 last_lines = refl

@@ -2,8 +2,8 @@
 use Rattle.std.specs.Prelude.{◌≡◌, ℕ, ◌+◌, ◌≤◌, List, [], ◌∷◌, length, slice_get, Option, Some, None}
 use Rattle.std.specs.Option.{option_or}
 use Rattle.std.specs.Result.{IsOkAnd}
-use Rattle.line_reader.specs.Lines.{lines_of}
-use Rattle.line_reader.specs.Faults.{after_lines, first_fault}
+use Rattle.text_lines.specs.Lines.{lines_of}
+use Rattle.text_lines.specs.Faults.{after_lines, first_fault}
 use Rattle.avr_isa.specs.declared.form.Form.{Form}
 use Rattle.avr_isa.specs.Encoding.{IsDecoded}
 use Rattle.avr_isa.specs.Image.{word}

@@ -1,7 +1,7 @@
 -- Serves private functions: what the two passes leave, line by line.
 use Rattle.std.specs.Prelude.{◌≡◌, ℕ, ◌+◌, ◌≤◌, List, ◌++◌, length, Option, Some, None, Ok}
-use Rattle.line_reader.specs.Lines.{lines_of}
-use Rattle.line_reader.specs.Faults.{after_lines, first_fault}
+use Rattle.text_lines.specs.Lines.{lines_of}
+use Rattle.text_lines.specs.Faults.{after_lines, first_fault}
 use Rattle.avr_isa.specs.declared.form.Form.{Form}
 use Rattle.avr_isa.specs.Instruction.{size_of}
 use Rattle.avr_asm.specs.declared.fault.AsmError.{AsmError}

@@ -1,5 +1,5 @@
 -- What a statement means: the instruction, the jump or the word that its mnemonic and its operands make.
-use Rattle.std.specs.Prelude.{Bool, true, false, ◌&&◌, if◌then◌else◌, Result, Ok, Err}
+use Rattle.std.specs.Prelude.{ℕ, Bool, true, false, ◌&&◌, if◌then◌else◌, Result, Ok, Err}
 use Rattle.avr_isa.specs.declared.form.Form.{Form}
 use Rattle.avr_isa.specs.declared.form.Form.TheVariants as forms
 use Rattle.avr_isa.specs.declared.operation.Base.TheVariants.{Z}
@@ -8,9 +8,13 @@ use Rattle.avr_isa.specs.Instruction.{is_valid}
 use Rattle.avr_isa.specs.InstructionTable.{is_address, is_bit}
 use Rattle.avr_asm.specs.declared.fault.AsmFault.{AsmFault}
 use Rattle.avr_asm.specs.declared.fault.AsmFault.TheVariants as faults
+use Rattle.avr_asm.specs.declared.mnemonic.FlagState.{FlagState}
+use Rattle.avr_asm.specs.declared.mnemonic.FlagState.TheVariants.{Set, Clear}
 use Rattle.avr_asm.specs.declared.mnemonic.Operation.{Operation}
 use Rattle.avr_asm.specs.declared.mnemonic.Operation.TheVariants as operations
 use Rattle.avr_asm.specs.declared.mnemonic.Jump.TheVariants.{If}
+use Rattle.avr_asm.specs.declared.mnemonic.ProgramAddress.{ProgramAddress}
+use Rattle.avr_asm.specs.declared.mnemonic.ProgramAddress.TheVariants.{Near, Far}
 use Rattle.avr_asm.specs.declared.operand.Operand.TheVariants.{Register, Number, Pointer, Displaced, Name}
 use Rattle.avr_asm.specs.declared.operand.Operands.{Operands}
 use Rattle.avr_asm.specs.declared.operand.Operands.TheVariants.{Zero, One, Two}
@@ -30,6 +34,21 @@ in_range are_in statement = if are_in then Ok statement else Err faults.Range
 abbrev pub ready : Form → Meaning
 ready form = in_range (is_valid form) (Ready form)
 
+-- BSET or BCLR
+abbrev pub flag_form : FlagState → ℕ → Form
+flag_form Set s = forms.Bset s
+flag_form Clear s = forms.Bclr s
+
+-- LPM or ELPM without operands
+abbrev pub bare_program_load : ProgramAddress → Form
+bare_program_load Near = forms.Lpm0
+bare_program_load Far = forms.Elpm0
+
+-- LPM or ELPM, which raise Z or not
+abbrev pub program_load : ProgramAddress → ℕ → Bool → Form
+program_load Near d increment = forms.Lpm d increment
+program_load Far d increment = forms.Elpm d increment
+
 -- The right side of the table: what a mnemonic stands for, the operands that it may have, and what it then means. Y and Z
 -- alone have displacement 0; a target is a name, or a word address; a word has 16 bits.
 unfoldable pub meaning_of : Operation → Operands → Meaning
@@ -42,11 +61,11 @@ meaning_of operations.Sleep Zero = ready forms.Sleep
 meaning_of operations.Break Zero = ready forms.Break
 meaning_of operations.Wdr Zero = ready forms.Wdr
 meaning_of operations.Spm Zero = ready forms.Spm
-meaning_of (operations.OneFlag set s) Zero = ready (if set then forms.Bset s else forms.Bclr s)
-meaning_of (operations.Flag set) (One (Number s)) = ready (if set then forms.Bset s else forms.Bclr s)
-meaning_of (operations.LoadProgram extended) Zero = ready (if extended then forms.Elpm0 else forms.Lpm0)
-meaning_of (operations.LoadProgram extended) (Two (Register d) (Pointer (Alone Z))) = ready (if extended then forms.Elpm d false else forms.Lpm d false)
-meaning_of (operations.LoadProgram extended) (Two (Register d) (Pointer (Through ZInc))) = ready (if extended then forms.Elpm d true else forms.Lpm d true)
+meaning_of (operations.OneFlag state s) Zero = ready (flag_form state s)
+meaning_of (operations.Flag state) (One (Number s)) = ready (flag_form state s)
+meaning_of (operations.LoadProgram from) Zero = ready (bare_program_load from)
+meaning_of (operations.LoadProgram from) (Two (Register d) (Pointer (Alone Z))) = ready (program_load from d false)
+meaning_of (operations.LoadProgram from) (Two (Register d) (Pointer (Through ZInc))) = ready (program_load from d true)
 meaning_of (operations.One op) (One (Register d)) = ready (forms.One op d)
 meaning_of operations.Push (One (Register r)) = ready (forms.Push r)
 meaning_of operations.Pop (One (Register d)) = ready (forms.Pop d)
@@ -77,7 +96,7 @@ meaning_of operations.Ldd (Two (Register d) (Displaced base q)) = ready (forms.L
 meaning_of operations.Std (Two (Displaced base q) (Register r)) = ready (forms.StoreOff base q r)
 meaning_of (operations.Jump kind) (One (Name name)) = Ok (To kind (Label name))
 meaning_of (operations.Jump kind) (One (Number a)) = in_range (is_address a) (To kind (At a))
-meaning_of (operations.Branch set) (Two (Number s) (Name name)) = in_range (is_bit s) (To (If set s) (Label name))
-meaning_of (operations.Branch set) (Two (Number s) (Number a)) = in_range (is_bit s && is_address a) (To (If set s) (At a))
+meaning_of (operations.Branch state) (Two (Number s) (Name name)) = in_range (is_bit s) (To (If state s) (Label name))
+meaning_of (operations.Branch state) (Two (Number s) (Number a)) = in_range (is_bit s && is_address a) (To (If state s) (At a))
 meaning_of operations.Data (One (Number n)) = in_range (is_address n) (Word n)
 meaning_of _ _ = Err faults.Form

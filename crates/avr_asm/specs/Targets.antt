@@ -1,5 +1,5 @@
 -- Where jumps lead, once all labels are known.
-use Rattle.std.specs.Prelude.{ℕ, ℤ, pos, ◌-ℤ◌, ◌+◌, true, false, if◌then◌else◌, List, Option, Some, None, Result, Ok, Err}
+use Rattle.std.specs.Prelude.{ℕ, ℤ, pos, ◌-ℤ◌, ◌+◌, if◌then◌else◌, List, Option, Some, None, Result, Ok, Err}
 use Rattle.std.specs.Result.{result_err}
 use Rattle.avr_isa.specs.declared.form.Form.{Form}
 use Rattle.avr_isa.specs.declared.form.Form.TheVariants as forms
@@ -7,6 +7,7 @@ use Rattle.avr_isa.specs.Instruction.{is_valid}
 use Rattle.avr_asm.specs.declared.fault.AsmFault.{AsmFault}
 use Rattle.avr_asm.specs.declared.fault.AsmFault.TheVariants as faults
 use Rattle.avr_asm.specs.declared.line.Line.{Line}
+use Rattle.avr_asm.specs.declared.mnemonic.FlagState.TheVariants.{Set, Clear}
 use Rattle.avr_asm.specs.declared.mnemonic.Jump.{Jump}
 use Rattle.avr_asm.specs.declared.mnemonic.Jump.TheVariants.{If, Rjmp, Rcall, Jmp, Call}
 use Rattle.avr_asm.specs.declared.statement.Statement.{Statement}
@@ -22,8 +23,8 @@ distance pc target = pos target -ℤ pos (pc + 1)
 
 -- the jump at pc to an address
 abbrev pub jump_to : Jump → ℕ → ℕ → Form
-jump_to (If true s) pc target = forms.Brbs s (distance pc target)
-jump_to (If false s) pc target = forms.Brbc s (distance pc target)
+jump_to (If Set s) pc target = forms.Brbs s (distance pc target)
+jump_to (If Clear s) pc target = forms.Brbc s (distance pc target)
 jump_to Rjmp pc target = forms.Rjmp (distance pc target)
 jump_to Rcall pc target = forms.Rcall (distance pc target)
 jump_to Jmp pc target = forms.Jmp target

@@ -7,8 +7,8 @@ ghost use Rattle.avr_asm.specs.AsmText.{AsmText, fault_of, IsRefusal};
 use crate::fault::AsmError;
 use crate::first_pass::first_pass;
 use crate::second_pass::second_pass;
+use base::NoMemory;
 use hex_image::Image;
-use no_memory::NoMemory;
 use std::alloc::Global;
 
 /// The image of a text.

@@ -3,7 +3,7 @@
 use thiserror::Error;
 
 /// A fault of a line. A line's faults are tried in this order, and the first is reported.
-#[derive(Clone, Copy, Debug, PartialEq, Eq, Error)]
+#[derive(Clone, Copy, Debug, Error)]
 pub enum AsmFault {
     /// The line hasn't the shape of a line, or a known mnemonic has operands of other kinds.
     #[error("form")]
@@ -29,13 +29,11 @@ pub enum AsmFault {
 }
 
 /// Why a source was not assembled.
-#[derive(Clone, Copy, Debug, PartialEq, Eq, Error)]
+#[derive(Clone, Copy, Debug)]
 pub enum AsmError {
     /// The first faulty line, counted from 1, and the first of its faults. Labels and reach are looked at only where
     /// no line has another fault.
-    #[error("bad asm line {line} {fault}")]
     Bad { line: u32, fault: AsmFault },
     /// Memory was wanted and not found.
-    #[error("no memory")]
     NoMemory,
 }

@@ -15,10 +15,10 @@ use crate::name::Name;
 use crate::statement::Statement;
 use crate::text::{trimmed, up_to};
 use avr_isa::size;
+use base::NoMemory;
 use hex_image::MOST_WORDS;
-use line_reader::first_line;
-use no_memory::NoMemory;
 use std::alloc::Global;
+use text_lines::first_line;
 
 /// Why a line isn't taken.
 #[derive(Clone, Copy)]

@@ -1,16 +1,15 @@
 //! Instructions by the kinds of their operands. Of other mnemonics such operands are a fault of form; one outside its
 //! field, and registers that leave the instruction undefined, a fault of range.
 
-ghost use Rattle.std.specs.Prelude.{◌≡◌, ◌<◌, SomeIff, true, if◌then◌else◌};
+ghost use Rattle.std.specs.Prelude.{◌≡◌, ◌<◌, SomeIff, true};
 ghost use Rattle.avr_isa.specs.Instruction.{is_valid};
-ghost use Rattle.avr_isa.specs.declared.form.Form.TheVariants as forms;
 ghost use Rattle.avr_asm.specs.declared.mnemonic.Operation.TheVariants as operations;
 ghost use Rattle.avr_asm.specs.declared.operand.Operand.TheVariants.{Register, Number, Pointer as ByPointer, Displaced, Name as Named};
 ghost use Rattle.avr_asm.specs.declared.operand.Operands.TheVariants.{Zero, One, Two};
-ghost use Rattle.avr_asm.specs.Statements.{meaning_of, ready as ready_of};
+ghost use Rattle.avr_asm.specs.Statements.{flag_form, meaning_of, program_load, ready as ready_of};
 
 use crate::fault::AsmFault;
-use crate::mnemonic::{Jump, Operation};
+use crate::mnemonic::{FlagState, Jump, Operation, ProgramAddress};
 use crate::name::Name;
 use crate::operand::Pointer;
 use crate::statement::{Statement, Target};
@@ -93,9 +92,9 @@ pub(crate) fn of_none(operation: Operation) -> Result<Statement, AsmFault>
         Operation::Break => Form::Break,
         Operation::Wdr => Form::Wdr,
         Operation::Spm => Form::Spm,
-        Operation::OneFlag(set, s) => return flag(set, u64::from(s)),
-        Operation::LoadProgram(true) => Form::Elpm0,
-        Operation::LoadProgram(false) => Form::Lpm0,
+        Operation::OneFlag(state, s) => return flag(state, u64::from(s)),
+        Operation::LoadProgram(ProgramAddress::Near) => Form::Lpm0,
+        Operation::LoadProgram(ProgramAddress::Far) => Form::Elpm0,
         _ => return Err(AsmFault::Form),
     };
     ready(form)
@@ -103,13 +102,16 @@ pub(crate) fn of_none(operation: Operation) -> Result<Statement, AsmFault>
 
 /// BSET, or BCLR.
 #[tactic(auto, unfolding(avr_isa::specs::Instruction::is_valid, avr_isa::specs::Instruction::fields_in_range))]
-fn flag(set: bool, s: u64) -> Result<Statement, AsmFault>
-    ensures value { result ≡ ready_of (if set then forms.Bset s else forms.Bclr s) }
+fn flag(state: FlagState, s: u64) -> Result<Statement, AsmFault>
+    ensures value { result ≡ ready_of (flag_form state s) }
 {
     let Some(s) = bit(s) else {
         return Err(AsmFault::Range);
     };
-    ready(if set { Form::Bset(s) } else { Form::Bclr(s) })
+    ready(match state {
+        FlagState::Set => Form::Bset(s),
+        FlagState::Clear => Form::Bclr(s),
+    })
 }
 
 /// Of a register.
@@ -234,7 +236,7 @@ pub(crate) fn of_two_numbers(operation: Operation, a: u64, b: u64) -> Result<Sta
     ensures value { result ≡ meaning_of operation (Two (Number a) (Number b)) }
 {
     let form = match operation {
-        Operation::Branch(set) => return branch_to(set, a, b),
+        Operation::Branch(state) => return branch_to(state, a, b),
         Operation::Cbi => match (low_io(a), bit(b)) {
             (Some(a), Some(b)) => Form::Cbi(a, b),
             _ => return Err(AsmFault::Range),
@@ -258,11 +260,11 @@ pub(crate) fn of_two_numbers(operation: Operation, a: u64, b: u64) -> Result<Sta
 
 /// BRBS or BRBC to an address.
 #[tactic(auto, unfolding(crate::specs::Statements::meaning_of))]
-fn branch_to(set: bool, s: u64, a: u64) -> Result<Statement, AsmFault>
-    ensures value { result ≡ meaning_of (operations.Branch set) (Two (Number s) (Number a)) }
+fn branch_to(state: FlagState, s: u64, a: u64) -> Result<Statement, AsmFault>
+    ensures value { result ≡ meaning_of (operations.Branch state) (Two (Number s) (Number a)) }
 {
     match address(a) {
-        Some(a) if s < 8 => Ok(Statement::To(Jump::If(set, s as u8), Target::At(a))),
+        Some(a) if s < 8 => Ok(Statement::To(Jump::If(state, s as u8), Target::At(a))),
         _ => Err(AsmFault::Range),
     }
 }
@@ -273,7 +275,7 @@ pub(crate) fn of_number(operation: Operation, n: u64) -> Result<Statement, AsmFa
     ensures value { result ≡ meaning_of operation (One (Number n)) }
 {
     match (operation, address(n)) {
-        (Operation::Flag(set), _) => flag(set, n),
+        (Operation::Flag(state), _) => flag(state, n),
         (Operation::Jump(jump), Some(a)) => Ok(Statement::To(jump, Target::At(a))),
         (Operation::Data, Some(word)) => Ok(Statement::Word(word)),
         (Operation::Jump(_) | Operation::Data, None) => Err(AsmFault::Range),
@@ -302,8 +304,8 @@ pub(crate) fn of_number_and_name(
     ensures value { result ≡ meaning_of operation (Two (Number s) (Named name)) }
 {
     match operation {
-        Operation::Branch(set) if s < 8 => Ok(Statement::To(
-            Jump::If(set, s as u8),
+        Operation::Branch(state) if s < 8 => Ok(Statement::To(
+            Jump::If(state, s as u8),
             Target::Label(name),
         )),
         Operation::Branch(_) => Err(AsmFault::Range),
@@ -322,9 +324,9 @@ pub(crate) fn of_register_and_pointer(
 {
     match operation {
         Operation::Ld => load(d, pointer),
-        Operation::LoadProgram(extended) => match pointer {
-            Pointer::Alone(Base::Z) => load_program(extended, d, false),
-            Pointer::At(Ptr::ZInc) => load_program(extended, d, true),
+        Operation::LoadProgram(from) => match pointer {
+            Pointer::Alone(Base::Z) => load_program(from, d, false),
+            Pointer::At(Ptr::ZInc) => load_program(from, d, true),
             _ => Err(AsmFault::Form),
         },
         _ => Err(AsmFault::Form),
@@ -346,16 +348,15 @@ fn load(d: u8, pointer: Pointer) -> Result<Statement, AsmFault>
 
 /// LPM or ELPM with operands.
 #[tactic(auto, unfolding(avr_isa::specs::Instruction::is_valid, avr_isa::specs::Instruction::fields_in_range))]
-fn load_program(extended: bool, d: u8, increment: bool) -> Result<Statement, AsmFault>
-    ensures value { result ≡ ready_of (if extended then forms.Elpm d increment else forms.Lpm d increment) }
+fn load_program(from: ProgramAddress, d: u8, increment: bool) -> Result<Statement, AsmFault>
+    ensures value { result ≡ ready_of (program_load from d increment) }
 {
     let Some(d) = Reg::new(d) else {
         return Err(AsmFault::Range);
     };
-    ready(if extended {
-        Form::Elpm(d, increment)
-    } else {
-        Form::Lpm(d, increment)
+    ready(match from {
+        ProgramAddress::Near => Form::Lpm(d, increment),
+        ProgramAddress::Far => Form::Elpm(d, increment),
     })
 }
 

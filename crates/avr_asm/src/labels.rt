@@ -4,7 +4,7 @@ ghost use Rattle.std.specs.Prelude.{◌≡◌, ℕ, List, [], OnOk};
 ghost use Rattle.avr_asm.specs.Labels.{address_in, label_after, HasLabels};
 
 use crate::name::Name;
-use no_memory::NoMemory;
+use base::NoMemory;
 use std::alloc::Global;
 use std::collections::BTreeMap;
 
@@ -32,6 +32,7 @@ impl<'a> Labels<'a> {
     }
 
     /// Adds a label with an address.
+    #[tactic(auto, using(std::proofs::lemmas::Map::Text::btree_map_updates_str))]
     pub(crate) fn add(&mut self, name: &'a [u8], address: u32) -> Result<(), NoMemory>
         ensures added { OnOk result ((q : List ℕ) → address_in self.new q ≡ label_after name.now address q (address_in self.old q)) }
     {

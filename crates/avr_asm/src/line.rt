@@ -12,7 +12,7 @@ use crate::operand::operands_in;
 use crate::statement::{Statement, meaning_in};
 use crate::table::operation_in;
 use crate::text::{front_word, trimmed, up_to};
-use line_reader::split_once;
+use text_lines::split_once;
 
 /// What a line says.
 #[derive(Drop)]

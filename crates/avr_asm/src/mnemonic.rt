@@ -14,10 +14,10 @@ pub(crate) enum Operation {
     Break,
     Wdr,
     Spm,
-    /// SEI and CLI: BSET where the bool is true, else BCLR, with the flag of this number.
-    OneFlag(bool, u8),
-    /// ELPM where the bool is true, else LPM.
-    LoadProgram(bool),
+    /// SEI and CLI: BSET and BCLR with the flag of this number.
+    OneFlag(FlagState, u8),
+    /// LPM and ELPM.
+    LoadProgram(ProgramAddress),
     One(OneOp),
     Push,
     Pop,
@@ -40,24 +40,40 @@ pub(crate) enum Operation {
     Sbi,
     Sbic,
     Sbis,
-    /// BSET where the bool is true, else BCLR.
-    Flag(bool),
+    /// BSET and BCLR.
+    Flag(FlagState),
     Ld,
     St,
     Ldd,
     Std,
     Jump(Jump),
-    /// BRBS where the bool is true, else BRBC.
-    Branch(bool),
+    /// BRBS and BRBC.
+    Branch(FlagState),
     /// A word of the program as it is.
     Data,
+}
+
+/// What a flag becomes by BSET or BCLR, and has to be for BRBS or BRBC.
+#[derive(Clone, Copy)]
+pub(crate) enum FlagState {
+    Set,
+    Clear,
+}
+
+/// Where a load of the program reads.
+#[derive(Clone, Copy)]
+pub(crate) enum ProgramAddress {
+    /// At Z.
+    Near,
+    /// At RAMPZ:Z.
+    Far,
 }
 
 /// Instructions that lead to a target.
 #[derive(Clone, Copy)]
 pub(crate) enum Jump {
-    /// BRBS where the bool is true, else BRBC, with the flag of this number.
-    If(bool, u8),
+    /// BRBS and BRBC with the flag of this number.
+    If(FlagState, u8),
     Rjmp,
     Rcall,
     Jmp,

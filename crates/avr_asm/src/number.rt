@@ -3,7 +3,7 @@
 ghost use Rattle.std.specs.Prelude.{◌≡◌, ◌≤◌};
 ghost use Rattle.avr_asm.specs.Numbers.{number_of, digits_of};
 
-use line_reader::value_of;
+use text_lines::value_of;
 
 /// The number that a text writes: 1 to 10 decimal digits, or `0x` and 1 to 8 hexadecimal digits.
 #[tactic(auto, unfolding(crate::specs::Numbers::number_of))]
@@ -18,7 +18,7 @@ pub(crate) fn number_in(text: &[u8]) -> Option<u64>
 }
 
 /// The number that digits of a base write, at least one and at most so many.
-#[tactic(auto, using(line_reader::proofs::DigitTests::all_digits, line_reader::proofs::DigitTests::some_other))]
+#[tactic(auto, using(text_lines::proofs::DigitTests::all_digits, text_lines::proofs::DigitTests::some_other))]
 fn digits_in(text: &[u8], radix: u32, most: usize) -> Option<u64>
     requires base { (10 ≤ radix) × (radix ≤ 16) }
     requires few { most ≤ 10 }

@@ -7,7 +7,7 @@ use crate::name::{Name, name_in};
 use crate::number::number_in;
 use crate::text::{found_in, trimmed};
 use avr_isa::{Base, Ptr};
-use line_reader::split_once;
+use text_lines::split_once;
 
 /// A pointer as LD, ST, LPM and ELPM name it.
 #[derive(Clone, Copy)]

@@ -17,8 +17,8 @@ use crate::statement::{Statement, Target};
 use crate::target::jump_in;
 use avr_encode::encode;
 use avr_isa::Instr;
-use line_reader::first_line;
 use std::alloc::Global;
+use text_lines::first_line;
 
 /// Adds a word.
 fn add_word(words: &mut Vec<u16>, word: u16) -> Result<(), Refusal>

@@ -3,7 +3,7 @@
 ghost use Rattle.std.specs.Prelude.{◌≡◌};
 ghost use Rattle.avr_asm.specs.Mnemonics.{operation_of};
 
-use crate::mnemonic::{Jump, Operation};
+use crate::mnemonic::{FlagState, Jump, Operation, ProgramAddress};
 use crate::text::found_in;
 use avr_isa::{ImmOp, OneOp, ProductOp, TwoOp, WordOp};
 
@@ -19,10 +19,10 @@ pub(crate) const MNEMONICS: [(&str, Operation); 78] = [
     ("break", Operation::Break),
     ("wdr", Operation::Wdr),
     ("spm", Operation::Spm),
-    ("sei", Operation::OneFlag(true, 7)),
-    ("cli", Operation::OneFlag(false, 7)),
-    ("lpm", Operation::LoadProgram(false)),
-    ("elpm", Operation::LoadProgram(true)),
+    ("sei", Operation::OneFlag(FlagState::Set, 7)),
+    ("cli", Operation::OneFlag(FlagState::Clear, 7)),
+    ("lpm", Operation::LoadProgram(ProgramAddress::Near)),
+    ("elpm", Operation::LoadProgram(ProgramAddress::Far)),
     // Of two registers.
     ("movw", Operation::Movw),
     ("add", Operation::Two(TwoOp::Add)),
@@ -80,15 +80,15 @@ pub(crate) const MNEMONICS: [(&str, Operation); 78] = [
     ("bst", Operation::Bst),
     ("sbrc", Operation::Sbrc),
     ("sbrs", Operation::Sbrs),
-    ("bset", Operation::Flag(true)),
-    ("bclr", Operation::Flag(false)),
+    ("bset", Operation::Flag(FlagState::Set)),
+    ("bclr", Operation::Flag(FlagState::Clear)),
     // Of a target, and the word as it is.
-    ("brbs", Operation::Branch(true)),
-    ("brbc", Operation::Branch(false)),
-    ("breq", Operation::Jump(Jump::If(true, 1))),
-    ("brne", Operation::Jump(Jump::If(false, 1))),
-    ("brlo", Operation::Jump(Jump::If(true, 0))),
-    ("brsh", Operation::Jump(Jump::If(false, 0))),
+    ("brbs", Operation::Branch(FlagState::Set)),
+    ("brbc", Operation::Branch(FlagState::Clear)),
+    ("breq", Operation::Jump(Jump::If(FlagState::Set, 1))),
+    ("brne", Operation::Jump(Jump::If(FlagState::Clear, 1))),
+    ("brlo", Operation::Jump(Jump::If(FlagState::Set, 0))),
+    ("brsh", Operation::Jump(Jump::If(FlagState::Clear, 0))),
     ("rjmp", Operation::Jump(Jump::Rjmp)),
     ("rcall", Operation::Jump(Jump::Rcall)),
     ("jmp", Operation::Jump(Jump::Jmp)),

@@ -8,7 +8,7 @@ ghost use Rattle.avr_asm.specs.Targets.{distance as distance_of, in_reach as in_
 use crate::fault::AsmFault;
 use crate::instruction::{address, defined};
 use crate::labels::Labels;
-use crate::mnemonic::Jump;
+use crate::mnemonic::{FlagState, Jump};
 use crate::statement::Target;
 use avr_isa::{Bit, Form, Instr, Rel7, Rel12};
 
@@ -52,14 +52,13 @@ fn jump_to(jump: Jump, pc: u32, target: u32) -> Result<Instr, AsmFault>
     ensures value { result ≡ in_reach_of (jump_to_of jump pc target) }
 {
     let form = match jump {
-        Jump::If(set, s) => {
+        Jump::If(state, s) => {
             let (Some(s), Some(k)) = (Bit::new(s), branch_distance(pc, target)) else {
                 return Err(AsmFault::Reach);
             };
-            if set {
-                Form::Brbs(s, k)
-            } else {
-                Form::Brbc(s, k)
+            match state {
+                FlagState::Set => Form::Brbs(s, k),
+                FlagState::Clear => Form::Brbc(s, k),
             }
         }
         Jump::Rjmp => match jump_distance(pc, target) {

@@ -3,7 +3,7 @@
 ghost use Rattle.std.specs.Prelude.{◌≡◌, ◌≤◌, length, map};
 ghost use Rattle.avr_asm.specs.Cuts.{is_blank as is_blank_test, before, skip_front, skip_end, trimmed as trimmed_of, found_in as found_beside, front_word as front_word_of, behind_word};
 
-use line_reader::split_once;
+use text_lines::split_once;
 
 /// Whether the byte is a space or a tab.
 fn is_blank(byte: u8) -> bool

@@ -52,30 +52,17 @@ word_kept words.Sbiw cpu p k = set_pair cpu.r p _ _
 one_kept : (op : OneOp) (cpu : Cpu) (d : ℕ) → count (one_of op cpu d) ≡ count cpu
 unfolding one_of
 one_kept ones.Com cpu d = length-set cpu.r d _
-one_kept ones.Neg cpu d = length-set cpu.r d _
-one_kept ones.Swap cpu d = length-set cpu.r d _
-one_kept ones.Inc cpu d = length-set cpu.r d _
-one_kept ones.Asr cpu d = length-set cpu.r d _
-one_kept ones.Lsr cpu d = length-set cpu.r d _
-one_kept ones.Ror cpu d = length-set cpu.r d _
-one_kept ones.Dec cpu d = length-set cpu.r d _
+one_kept _ cpu d = length-set cpu.r d _
 
 product_kept : (op : ProductOp) (cpu : Cpu) (d r : ℕ) → count (product_of op cpu d r) ≡ count cpu
 unfolding product_of
 product_kept products.Mulsu cpu d r = set_pair cpu.r 0 _ _
-product_kept products.Fmul cpu d r = set_pair cpu.r 0 _ _
-product_kept products.Fmuls cpu d r = set_pair cpu.r 0 _ _
-product_kept products.Fmulsu cpu d r = set_pair cpu.r 0 _ _
+product_kept _ cpu d r = set_pair cpu.r 0 _ _
 
 pointer_kept : (p : Ptr) (cpu : Cpu) (v : ℕ) → count (with_pointer cpu p v) ≡ count cpu
 unfolding with_pointer
 pointer_kept pointers.X cpu v = refl
-pointer_kept pointers.ZInc cpu v = set_pair cpu.r 30 _ _
-pointer_kept pointers.ZDec cpu v = set_pair cpu.r 30 _ _
-pointer_kept pointers.YInc cpu v = set_pair cpu.r 28 _ _
-pointer_kept pointers.YDec cpu v = set_pair cpu.r 28 _ _
-pointer_kept pointers.XInc cpu v = set_pair cpu.r 26 _ _
-pointer_kept pointers.XDec cpu v = set_pair cpu.r 26 _ _
+pointer_kept _ cpu v = set_pair cpu.r _ _ _
 
 own_by : (own stack_low stack_high : Bool) (cpu : Cpu) (r : List ℕ) (low high status : ℕ) → length r ≡ count cpu
     → count (if own then record cpu { r = r } else if stack_low then record cpu { sp = low } else if stack_high then record cpu { sp = high } else record cpu { sreg = status }) ≡ count cpu
@@ -90,7 +77,8 @@ stored_by false cpu cpu' same = refl
 
 stored_kept : (cpu : Cpu) (a v : ℕ) → count (stored cpu a v) ≡ count cpu
 unfolding stored with_own_byte
-stored_kept cpu a v = stored_by (is_own a) cpu (with_own_byte cpu a v) (own_by (nat_lt a 0x20) (a == 0x5D) (a == 0x5E) cpu (slice_set cpu.r a v) (cpu.sp / 256 * 256 + v) (v * 256 + cpu.sp % 256) v (length-set cpu.r a v))
+stored_kept cpu a v = stored_by (is_own a) cpu (with_own_byte cpu a v)
+    (own_by (nat_lt a 0x20) (a == 0x5D) (a == 0x5E) cpu (slice_set cpu.r a v) (cpu.sp / 256 * 256 + v) (v * 256 + cpu.sp % 256) v (length-set cpu.r a v))
 
 -- Z raised where the instruction says so
 raised_kept : (inc : Bool) (cpu : Cpu) (a b : ℕ) → count (if inc then record cpu { r = slice_set (slice_set cpu.r 30 a) 31 b } else cpu) ≡ count cpu

@@ -3,7 +3,8 @@
 -- AVR Instruction Set Manual, "Operation" and "Program Counter" of each instruction; "The Program and Data Addressing Modes".
 use Rattle.std.specs.Prelude.{ℕ, true, false, not, ◌^◌, ◌==◌, ◌<◌, ◌≤◌, ◌≡◌, if◌then◌else◌}
 use Rattle.avr_isa.specs.declared.form.Form.{Form}
-use Rattle.avr_isa.specs.declared.form.Form.TheVariants.{Movw, Muls, Product, Two, Cpse, Imm, Word, One, LoadOff, StoreOff, LoadAt, StoreAt, Lds, Sts, Pop, Push, Lpm0, Elpm0, Lpm, Elpm, InIo, OutIo, Cbi, Sbi, Sbic, Sbis, Bld, Bst, Sbrc, Sbrs, Bset, Bclr, Brbs, Brbc, Rjmp, Rcall, Jmp, Call, Ijmp, Icall, Ret, Reti, Sleep, Spm}
+use Rattle.avr_isa.specs.declared.form.Form.TheVariants.{Movw, Muls, Product, Two, Cpse, Imm, Word, One, LoadOff, StoreOff, LoadAt, StoreAt, Lds, Sts, Pop, Push, Lpm0, Elpm0, Lpm, Elpm, InIo, OutIo}
+use Rattle.avr_isa.specs.declared.form.Form.TheVariants.{Cbi, Sbi, Sbic, Sbis, Bld, Bst, Sbrc, Sbrs, Bset, Bclr, Brbs, Brbc, Rjmp, Rcall, Jmp, Call, Ijmp, Icall, Ret, Reti, Sleep, Spm}
 use Rattle.avr_isa.specs.declared.operation.Base.{Base}
 use Rattle.avr_isa.specs.declared.operation.Base.TheVariants.{Y, Z}
 use Rattle.avr_isa.specs.declared.operation.Ptr.{Ptr}

@@ -2,7 +2,8 @@
 -- answered to one byte.
 use Rattle.std.specs.Prelude.{ℕ, Bool, true, false, if◌then◌else◌}
 use Rattle.avr_isa.specs.declared.form.Form.{Form}
-use Rattle.avr_isa.specs.declared.form.Form.TheVariants.{Movw, Two, Imm, Word, One, Cpse, LoadOff, StoreOff, LoadAt, StoreAt, Lds, Sts, Pop, Push, Lpm0, Elpm0, Lpm, Elpm, InIo, OutIo, Cbi, Sbic, Sbi, Sbis, Sbrc, Sbrs, Brbs, Brbc, Rjmp, Rcall, Jmp, Call, Ijmp, Icall, Ret, Reti, Sleep, Spm}
+use Rattle.avr_isa.specs.declared.form.Form.TheVariants.{Movw, Two, Imm, Word, One, Cpse, LoadOff, StoreOff, LoadAt, StoreAt, Lds, Sts, Pop, Push, Lpm0, Elpm0, Lpm, Elpm, InIo, OutIo, Cbi, Sbic, Sbi}
+use Rattle.avr_isa.specs.declared.form.Form.TheVariants.{Sbis, Sbrc, Sbrs, Brbs, Brbc, Rjmp, Rcall, Jmp, Call, Ijmp, Icall, Ret, Reti, Sleep, Spm}
 use Rattle.avr_exec.specs.declared.answer.Answer.{Answer}
 use Rattle.avr_exec.specs.declared.answer.Answer.TheVariants.{Done, Byte}
 use Rattle.avr_exec.specs.Registers.{is_own}

@@ -54,10 +54,11 @@ unfolding with_result_flags
 of_dec d lt = same_at (λ k. slice_index_or COUNTED (256 + k) 0) (λ k. (result_of 0 ((k + 255) % 256) (k == 0x80)).1) 256 d refl lt
 
 -- a test of a flag that holds whether it is set or clear
-abbrev both : (Bool → Bool) → Bool
+unfoldable both : (Bool → Bool) → Bool
 both f = f true && f false
 
 both_at : (f : Bool → Bool) (b : Bool) → both f ≡ true → f b ≡ true
+unfolding both
 both_at f true h = (and_parts (f true) (f false) h).0
 both_at f false h = (and_parts (f true) (f false) h).1
 
@@ -69,15 +70,12 @@ abbrev is_result : Bool → Bool → Bool → Bool
 is_result n z v = same_below (of_parts n z v) (λ s. with_result_flags s n z v) 256
 
 results : both (λ n. both (λ z. both (λ v. is_result n z v))) ≡ true
-unfolding with_result_flags
+unfolding both with_result_flags
 results = refl
 
 pub with_result_made : (s : ℕ) (n z v : Bool) → s < 256 → of_parts n z v s ≡ with_result_flags s n z v
 with_result_made s n z v lt =
-    let at_n = both_at (λ n. both (λ z. both (λ v. is_result n z v))) n results in
-    let at_z = both_at (λ z. both (λ v. is_result n z v)) z at_n in
-    let at_v = both_at (λ v. is_result n z v) v at_z in
-    same_at (of_parts n z v) (λ s. with_result_flags s n z v) 256 s at_v lt
+    same_at (of_parts n z v) (λ s. with_result_flags s n z v) 256 s (both_at _ v (both_at _ z (both_at _ n results))) lt
 
 -- SREG with T and I kept, from the flags of carries and of a result
 abbrev of_both : Bool → Bool → Bool → Bool → Bool → ℕ → ℕ
@@ -90,16 +88,11 @@ is_sum h n z v c =
     && same_below (λ s. bit_and (with_arithmetic_flags s h n z v c) (bit_or s 253)) (λ s. with_arithmetic_flags s h n (has_bit s zero_flag && z) v c) 256
 
 sums : both (λ h. both (λ n. both (λ z. both (λ v. both (λ c. is_sum h n z v c))))) ≡ true
-unfolding with_result_flags
+unfolding both with_result_flags
 sums = refl
 
 sum_at : (h n z v c : Bool) → is_sum h n z v c ≡ true
-sum_at h n z v c =
-    let at_h = both_at (λ h. both (λ n. both (λ z. both (λ v. both (λ c. is_sum h n z v c))))) h sums in
-    let at_n = both_at (λ n. both (λ z. both (λ v. both (λ c. is_sum h n z v c)))) n at_h in
-    let at_z = both_at (λ z. both (λ v. both (λ c. is_sum h n z v c))) z at_n in
-    let at_v = both_at (λ v. both (λ c. is_sum h n z v c)) v at_z in
-    both_at (λ c. is_sum h n z v c) c at_v
+sum_at h n z v c = both_at _ c (both_at _ v (both_at _ z (both_at _ n (both_at _ h sums))))
 
 pub with_sum_made : (s : ℕ) (h n z v c : Bool) → s < 256 → of_both h n z v c s ≡ with_arithmetic_flags s h n z v c
 with_sum_made s h n z v c lt =
@@ -118,13 +111,9 @@ abbrev is_carried : Bool → Bool → Bool → Bool → Bool
 is_carried n z v c = same_below (of_top n z v c) (λ s. with_result_flags (with_bit s carry c) n z v) 256
 
 carried : both (λ n. both (λ z. both (λ v. both (λ c. is_carried n z v c)))) ≡ true
-unfolding with_result_flags
+unfolding both with_result_flags
 carried = refl
 
 pub with_top_carries_made : (s : ℕ) (n z v c : Bool) → s < 256 → of_top n z v c s ≡ with_result_flags (with_bit s carry c) n z v
 with_top_carries_made s n z v c lt =
-    let at_n = both_at (λ n. both (λ z. both (λ v. both (λ c. is_carried n z v c)))) n carried in
-    let at_z = both_at (λ z. both (λ v. both (λ c. is_carried n z v c))) z at_n in
-    let at_v = both_at (λ v. both (λ c. is_carried n z v c)) v at_z in
-    let at_c = both_at (λ c. is_carried n z v c) c at_v in
-    same_at (of_top n z v c) (λ s. with_result_flags (with_bit s carry c) n z v) 256 s at_c lt
+    same_at (of_top n z v c) (λ s. with_result_flags (with_bit s carry c) n z v) 256 s (both_at _ c (both_at _ v (both_at _ z (both_at _ n carried)))) lt

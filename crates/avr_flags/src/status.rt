@@ -86,6 +86,7 @@ impl Status {
     }
 
     /// With this one flag made so.
+    #[tactic(auto, using(crate::proofs::StatusTables::set_flag))]
     pub(crate) fn with(mut self, flag: Status, value: bool) -> Status
         requires { IsTrue (is_weight flag.0) }
         ensures { result.0 ≡ with_bit self.0 flag.0 value }
@@ -95,6 +96,7 @@ impl Status {
     }
 
     /// With N, Z, V and S as this byte has them, in which the others are clear.
+    #[tactic(auto, using(crate::proofs::TableLaws::with_result_made))]
     pub(crate) fn with_result(self, flags: u8) -> Status
         ensures { (n z v : Bool) → flags ≡ with_result_flags 0 n z v → result.0 ≡ with_result_flags self.0 n z v }
     {
@@ -102,6 +104,7 @@ impl Status {
     }
 
     /// With all flags of a sum or a difference, as its carries (`flags_of_carries`) and its result tell.
+    #[tactic(auto, using(crate::proofs::TableLaws::with_sum_made))]
     pub(crate) fn with_sum(self, carries: u16, value: u8) -> Status
         ensures { result.0
             ≡ with_arithmetic_flags self.0
@@ -115,6 +118,7 @@ impl Status {
     }
 
     /// As `with_sum`, but H stays. Of the carries those into bits 7 and 8 count.
+    #[tactic(auto, using(crate::proofs::TableLaws::of_top_carries, crate::proofs::TableLaws::with_top_carries_made))]
     pub(crate) fn with_top_carries(self, carries: u16, value: u8) -> Status
         requires { carries < 512 }
         ensures { result.0

@@ -99,6 +99,7 @@ static COUNTED: [u8; 512] = [
 ];
 
 /// N, Z and S of a result, where V is clear.
+#[tactic(auto, using(crate::proofs::TableLaws::of_result))]
 pub(crate) fn flags_of_result(value: u8) -> u8
     ensures { result ≡ (result_of 0 value false).1 }
 {
@@ -108,6 +109,7 @@ pub(crate) fn flags_of_result(value: u8) -> u8
 /// H, V, C and S of a sum or a difference, where N is clear. `carries` has at each bit whether one was
 /// carried into it, or borrowed from it: H is that of bit 4, C that of bit 8, and V says that those of
 /// bits 7 and 8 differ.
+#[tactic(auto, using(crate::proofs::TableLaws::of_carries))]
 pub(crate) fn flags_of_carries(carries: u16) -> u8
     ensures { result
         ≡ with_arithmetic_flags 0
@@ -121,6 +123,7 @@ pub(crate) fn flags_of_carries(carries: u16) -> u8
 }
 
 /// N, Z, V and S after INC of this byte.
+#[tactic(auto, using(crate::proofs::TableLaws::of_inc))]
 pub(crate) fn flags_of_inc(d: u8) -> u8
     ensures { result ≡ (result_of 0 ((d + 1) % 256) (d == 0x7F)).1 }
 {
@@ -128,6 +131,7 @@ pub(crate) fn flags_of_inc(d: u8) -> u8
 }
 
 /// N, Z, V and S after DEC of this byte.
+#[tactic(auto, using(crate::proofs::TableLaws::of_dec))]
 pub(crate) fn flags_of_dec(d: u8) -> u8
     ensures { result ≡ (result_of 0 ((d + 255) % 256) (d == 0x80)).1 }
 {

@@ -16,7 +16,8 @@ use Rattle.avr_isa.specs.Crossing.{is_crossing}
 
 -- LDI r16,15; LDI r24,200; OUT PORTA,r16; RJMP to itself; DEC r24; BREQ 8; IN r24,SREG; SEI
 words : List ℕ
-words = first_word (Imm Ldi 16 15) ∷ first_word (Imm Ldi 24 200) ∷ first_word (OutIo 0x1B 16) ∷ first_word (Rjmp (negsuc 0)) ∷ first_word (One Dec 24) ∷ first_word (Brbs 1 (pos 8)) ∷ first_word (InIo 24 0x3F) ∷ first_word (Bset 7) ∷ []
+words = first_word (Imm Ldi 16 15) ∷ first_word (Imm Ldi 24 200) ∷ first_word (OutIo 0x1B 16) ∷ first_word (Rjmp (negsuc 0)) ∷ first_word (One Dec 24) ∷ first_word (Brbs 1 (pos 8))
+    ∷ first_word (InIo 24 0x3F) ∷ first_word (Bset 7) ∷ []
 
 words-are : words ≡ 0xE00F ∷ 0xEC88 ∷ 0xBB0B ∷ 0xCFFF ∷ 0x958A ∷ 0xF041 ∷ 0xB78F ∷ 0x9478 ∷ []
 unfolding words first_word

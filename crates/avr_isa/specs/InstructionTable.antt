@@ -2,7 +2,9 @@
 -- operands say whether these are in their ranges, and where their bits stand.
 use Rattle.std.specs.Prelude.{ℕ, ℤ, pos, negsuc, ◌+◌, ◌-◌, ◌*◌, ◌/◌, ◌%◌, Bool, true, ◌&&◌, ◌==◌, nat_lt, nat_le, int_le, if◌then◌else◌, Option, Some, None}
 use Rattle.avr_isa.specs.declared.form.Form.{Form}
-use Rattle.avr_isa.specs.declared.form.Form.TheVariants.{Nop, Movw, Muls, Product, Two, Cpse, Imm, Word, One, LoadOff, StoreOff, LoadAt, StoreAt, Lds, Sts, Pop, Push, Lpm0, Elpm0, Lpm, Elpm, InIo, OutIo, Cbi, Sbic, Sbi, Sbis, Bld, Bst, Sbrc, Sbrs, Bset, Bclr, Brbs, Brbc, Rjmp, Rcall, Jmp, Call, Ijmp, Icall, Ret, Reti, Sleep, Break, Wdr, Spm}
+use Rattle.avr_isa.specs.declared.form.Form.TheVariants.{Nop, Movw, Muls, Product, Two, Cpse, Imm, Word, One, LoadOff, StoreOff, LoadAt, StoreAt, Lds, Sts, Pop, Push, Lpm0, Elpm0, Lpm, Elpm, InIo}
+use Rattle.avr_isa.specs.declared.form.Form.TheVariants.{OutIo, Cbi, Sbic, Sbi, Sbis, Bld, Bst, Sbrc, Sbrs, Bset, Bclr, Brbs, Brbc, Rjmp, Rcall, Jmp, Call, Ijmp, Icall, Ret, Reti, Sleep, Break, Wdr}
+use Rattle.avr_isa.specs.declared.form.Form.TheVariants.{Spm}
 use Rattle.avr_isa.specs.declared.operation.ProductOp.{ProductOp}
 use Rattle.avr_isa.specs.declared.operation.ProductOp.TheVariants.{Mulsu, Fmul, Fmuls, Fmulsu}
 use Rattle.avr_isa.specs.declared.operation.TwoOp.{TwoOp}

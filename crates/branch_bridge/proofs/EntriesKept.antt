@@ -29,7 +29,8 @@ own_place layout image old page t words place prepared =
     omega (arith, prepared.placed, prepared.fits)
 
 -- a page that is made
-made_entries : (layout : Layout) (image old new : List ℕ) (page t place : ℕ) → IsRight layout → IsFaithful layout image old → IsPool layout page → IsFree old page → place / page_words ≡ page → MakesPage layout image old new page t place
+made_entries : (layout : Layout) (image old new : List ℕ) (page t place : ℕ) → IsRight layout → IsFaithful layout image old → IsPool layout page → IsFree old page → place / page_words ≡ page
+    → MakesPage layout image old new page t place
     → KeepsEntries layout old new true place
 made_entries layout image old new page t place right code pool free own makes a v away = (
   λ entry. makes_entries layout image old new page t place right code pool free makes a v entry,
@@ -47,7 +48,8 @@ made_entries layout image old new page t place right code pool free own makes a 
 )
 
 -- .. in flash where the entries elsewhere are those that were there before
-pub entries_made : (layout : Layout) (before : List ℕ) (old new : Store) (page t : ℕ) (again : Bool) (result : Result Moved Refused) → IsRight layout → IsFaithful layout (image_of layout old.flash.words) old.flash.words
+pub entries_made : (layout : Layout) (before : List ℕ) (old new : Store) (page t : ℕ) (again : Bool) (result : Result Moved Refused) → IsRight layout
+    → IsFaithful layout (image_of layout old.flash.words) old.flash.words
     → IsPool layout page → IsFree old.flash.words page
     → ((a v : ℕ) → v / page_words ≢ page → IsEntry layout before a v → IsEntry layout old.flash.words a v) → ((a v : ℕ) → IsEntry layout old.flash.words a v → IsEntry layout before a v)
     → Makes layout old new page t again result → IfOk result (λ moved. KeepsEntries layout before new.flash.words moved.made moved.place)
@@ -55,9 +57,9 @@ entries_made layout before old new page t again result right code pool free on b
     let image = image_of layout old.flash.words in
     let own = own_place layout image old.flash.words page t words place prepared in
     let after = done_words old.flash new.flash page again words performed in
-    let makes : MakesPage layout image old.flash.words new.flash.words page t place = subst (λ w. MakesPage layout image old.flash.words w page t place) (sym after) (prepared_makes layout image old.flash.words page t place words prepared) in
+    let makes : MakesPage layout image old.flash.words new.flash.words page t place = rw after (prepared_makes layout image old.flash.words page t place words prepared) in
     let made = made_entries layout image old.flash.words new.flash.words page t place right code pool free own makes in
     subst (λ (r : Result Moved Refused). IfOk r (λ moved. KeepsEntries layout before new.flash.words moved.made moved.place)) (sym answer) (λ a v away.
     (λ entry. (made a v away).0 (on a v (λ same. away refl (same ∙ sym own)) entry), λ entry. back a v ((made a v away).1 entry)))
 entries_made layout before old new page t again result right code pool free on back (NotMade words place prepared stop performed same answer) =
-    subst (λ (r : Result Moved Refused). IfOk r (λ moved. KeepsEntries layout before new.flash.words moved.made moved.place)) (sym answer) tt
+    rw answer tt

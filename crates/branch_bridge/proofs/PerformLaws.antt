@@ -1,7 +1,7 @@
 -- Operations in a row.
 use Rattle.std.proofs.Common.{◌≡◌, ℕ, ◌+◌, ◌*◌, ◌≤◌, Bool, true, false, List, ◌∷◌, length, Some, None, arith, sym, ap, ◌∙◌, subst}
 use Rattle.std.specs.Prelude.{if◌then◌else◌}
-use Rattle.base_laws.proofs.ManyLaws.{length-many}
+use Rattle.base.proofs.ManyLaws.{length-many}
 use Rattle.flash_words.specs.Pages.{page_words, page_of, set_page, blank}
 use Rattle.flash_words.specs.Memory.{Memory}
 use Rattle.flash_words.specs.Operations.{fails, left_by_refusal, erased_page, programmed_page}
@@ -9,7 +9,8 @@ use Rattle.flash_words.proofs.PageLaws.{page_same, set_page_twice}
 use Rattle.branch_bridge.specs.Operating.{Operation, Erase, Program, operated_page, operated, stop_at, Performed, perform, rewriting, mended}
 
 -- one operation, refused and done
-pub perform_refused : (m : Memory) (operation : Operation) (more : List Operation) → fails m ≡ true → perform m (operation ∷ more) ≡ record { memory = left_by_refusal m (operated_page operation); stop = Some (stop_at m operation) }
+pub perform_refused : (m : Memory) (operation : Operation) (more : List Operation) → fails m ≡ true
+    → perform m (operation ∷ more) ≡ record { memory = left_by_refusal m (operated_page operation); stop = Some (stop_at m operation) }
 perform_refused m operation more is =
     let P : Bool → Performed = λ b. (if b then record { memory = left_by_refusal m (operated_page operation); stop = Some (stop_at m operation) } else perform (operated m operation) more) in
     ap P is
@@ -46,7 +47,8 @@ mended_by P m page words inside before after =
     ]
 
 -- .. where all is done, those with the page in them are the words
-pub rewriting_done : (m m' : Memory) (page : ℕ) (words : List ℕ) → page_words * page + page_words ≤ length m.words → perform m (rewriting page words) ≡ record { memory = m'; stop = None } → m'.words ≡ set_page m.words page words
+pub rewriting_done : (m m' : Memory) (page : ℕ) (words : List ℕ) → page_words * page + page_words ≤ length m.words → perform m (rewriting page words) ≡ record { memory = m'; stop = None }
+    → m'.words ≡ set_page m.words page words
 unfolding blank
 rewriting_done m m' page words inside performed =
     let e = erased_page m page in

@@ -25,8 +25,7 @@ jump_links layout words t place entry = inr (refl, entry)
 
 -- two stubs that aren't resolved don't overlap: neither begins at the other's second word
 pub stubs_apart : (words : List ℕ) (s b : ℕ) → word_at words (s + 1) ≡ bridge_entry → word_at words b ≡ call_word → b ≢ s + 1
-stubs_apart words s b bridge call is =
-    omega (arith, sym call ∙ ap (word_at words) is ∙ bridge)
+stubs_apart words s b bridge call is = omega (arith, sym call ∙ ap (word_at words) is ∙ bridge)
 
 -- each other stub stays as it is
 pub unresolved_beside : (layout : Layout) (image words : List ℕ) (s t place b to : ℕ) → IsRight layout → IsFaithful layout image words
@@ -48,13 +47,14 @@ pub record Relinked (layout : Layout) (image words words' : List ℕ) (s : ℕ) 
   pub stubs : (b to : ℕ) → b ≢ s → IsUnresolved layout image words b to → IsUnresolved layout image words' b to
   pub used : used_pages layout words' ≡ used_pages layout words
 
-pub relinked : (layout : Layout) (image words : List ℕ) (s t place : ℕ) → IsRight layout → IsFaithful layout image words → IsUnresolved layout image words s t → IsEntry layout words t place → Relinked layout image words (with_two_words words s jump_word place) s
+pub relinked : (layout : Layout) (image words : List ℕ) (s t place : ℕ) → IsRight layout → IsFaithful layout image words → IsUnresolved layout image words s t → IsEntry layout words t place
+    → Relinked layout image words (with_two_words words s jump_word place) s
 relinked layout image words s t place right code stub entry =
     let jump = jump_links layout words t place entry in
     record {
       code = relinked_faithful layout image words s t jump_word place right code stub.link jump;
       same_image = relinked_image layout image words s t jump_word place right code stub.link jump;
-      entries = λ a v. (relinked_entries layout image words s t jump_word place a v right code stub.link jump, relinked_entries_back layout image words s t jump_word place a v right code stub.link jump);
+      entries = λ a v. (relinked_entries _ _ _ _ _ _ _ _ _ right code stub.link jump, relinked_entries_back _ _ _ _ _ _ _ _ _ right code stub.link jump);
       links = λ b to. relinked_links layout image words s t jump_word place b to right code stub.link jump;
       stubs = λ b to. unresolved_beside layout image words s t place b to right code stub entry;
       used = used_relinked layout image words s t jump_word place right code stub.link jump;
@@ -70,12 +70,14 @@ pub record ResolveTold (layout : Layout) (image : List ℕ) (old : Memory) (told
   pub ops : told.memory.ops ≤ old.ops + 2
 
 -- the page with the jump in it
-pub is_resolved : (layout : Layout) (image words : List ℕ) (s t place : ℕ) → IsRight layout → IsFaithful layout image words → IsUnresolved layout image words s t → set_page words (s / page_words) (page_of (with_two_words words s jump_word place) (s / page_words)) ≡ with_two_words words s jump_word place
+pub is_resolved : (layout : Layout) (image words : List ℕ) (s t place : ℕ) → IsRight layout → IsFaithful layout image words → IsUnresolved layout image words s t
+    → set_page words (s / page_words) (page_of (with_two_words words s jump_word place) (s / page_words)) ≡ with_two_words words s jump_word place
 is_resolved layout image words s t place right code stub =
     let placed = link_placed layout image words s t jump_word place right code.whole stub.link in
     ap (set_page words (s / page_words)) (page_of_two words (s / page_words) s jump_word place (omega (arith, code.whole, placed.low)) refl placed.room) ∙ placed.is
 
-pub told_resolving : (layout : Layout) (image : List ℕ) (old : Memory) (s t place : ℕ) → IsRight layout → IsFaithful layout image old.words → IsUnresolved layout image old.words s t → IsEntry layout old.words t place
+pub told_resolving : (layout : Layout) (image : List ℕ) (old : Memory) (s t place : ℕ) → IsRight layout → IsFaithful layout image old.words → IsUnresolved layout image old.words s t
+    → IsEntry layout old.words t place
     → ResolveTold layout image old (perform old (resolving old.words s place))
 told_resolving layout image old s t place right code stub entry =
     let words = old.words in
@@ -87,8 +89,8 @@ told_resolving layout image old s t place right code stub entry =
     record {
       code = mended_by (IsFaithful layout image) old page new inside code (subst (IsFaithful layout image) (sym is) stays.code);
       same_image = mended_by (λ w. image_of layout w ≡ image_of layout words) old page new inside refl (ap (image_of layout) is ∙ stays.same_image);
-      entries = mended_by (λ w. (a v : ℕ) → IsEntry layout words a v → IsEntry layout w a v) old page new inside (λ a v e. e) (λ a v e. subst (λ w. IsEntry layout w a v) (sym is) ((stays.entries a v).0 e));
-      entries_back = mended_by (λ w. (a v : ℕ) → IsEntry layout w a v → IsEntry layout words a v) old page new inside (λ a v e. e) (λ a v e. (stays.entries a v).1 (subst (λ w. IsEntry layout w a v) is e));
+      entries = mended_by (λ w. (a v : ℕ) → IsEntry layout words a v → IsEntry layout w a v) old page new inside (λ a v e. e) (λ a v e. rw is ((stays.entries a v).0 e));
+      entries_back = mended_by (λ w. (a v : ℕ) → IsEntry layout w a v → IsEntry layout words a v) old page new inside (λ a v e. e) (λ a v e. (stays.entries a v).1 (rw is at e));
       used = mended_by (λ w. used_pages layout w ≡ used_pages layout words) old page new inside refl (ap (used_pages layout) is ∙ stays.used);
       ops = rewriting_ops old page new;
     }

@@ -1,5 +1,5 @@
 -- Bytes beside RING and the tables.
-use Rattle.std.proofs.Common.{◌≡◌, ℕ, ◌+◌, ◌%◌, ◌<◌, ◌≤◌, ◌⊎◌, List, arith, inl, inr, ap₂, ◌*◌}
+use Rattle.std.proofs.Common.{◌≡◌, ℕ, ◌+◌, ◌%◌, ◌<◌, ◌≤◌, ◌⊎◌, List, arith, inl, inr, ap₂, ◌*◌, ⊎_elim}
 use Rattle.sram_layout.specs.Bytes.{data_word_at}
 use Rattle.sram_layout.specs.Boot.{at_boot}
 use Rattle.sram_layout.specs.Cells.{ring_cell}
@@ -12,16 +12,10 @@ use Rattle.branch_bridge.specs.Arrivals.{ring_of, turned, KeepsOtherBytes}
 
 -- where the tables alone change, and where RING does
 beside_tables : (a : ℕ) → (a < place_cells.first) ⊎ (place_cells.behind ≤ a) → (a < place_tables.first) ⊎ (place_tables.behind ≤ a)
-beside_tables a apart = elim apart [
-  | inl below ↦ inl (omega arith)
-  | inr above ↦ inr above
-]
+beside_tables a apart = ⊎_elim (λ below. inl (omega arith)) inr apart
 
 pub others_rest : (m m' : List ℕ) → KeepsRest m m' → KeepsOtherBytes m m'
-others_rest m m' keeps = record {
-  size = keeps.size;
-  rest = λ a from apart. keeps.rest a from (beside_tables a apart);
-}
+others_rest m m' keeps = record { size = keeps.size; rest = λ a from apart. keeps.rest a from (beside_tables a apart) }
 
 pub others_turned : (layout : Layout) (m : List ℕ) → KeepsOtherBytes m (turned layout m)
 others_turned layout m = record {
@@ -29,10 +23,7 @@ others_turned layout m = record {
   rest = λ a from apart. byte_out_of_word m ring_cell a ((ring_of m + 1) % layout.pool_pages) (omega arith) from (λ is. elim apart [
     | inl below ↦ omega arith
     | inr above ↦ omega arith
-  ]) (λ is. elim apart [
-    | inl below ↦ omega arith
-    | inr above ↦ omega arith
-  ]);
+  ]) (λ is. ⊎_elim (λ below. omega arith) (λ above. omega arith) apart);
 }
 
 -- RING is 0 at boot

@@ -20,10 +20,7 @@ by_page : (page b s : ℕ) (test : Bool) → (page == b / page_words) ≡ test �
 by_page page b s true test is = absurd (let never : None ≡ Some s = is in cc)
 by_page page b s false test is =
     let same : b ≡ s = cc in
-    record {
-      same = is;
-      apart = λ own. (let here : page ≡ s / page_words = cc in unequal page (b / page_words) test (here ∙ ap (λ x. x / page_words) (sym same)));
-    }
+    record { same = is; apart = λ own. (let here : page ≡ s / page_words = cc in unequal page (b / page_words) test (here ∙ ap (λ x. x / page_words) (sym same))) }
 
 pub is_to_resolve : (recycled stub : Option ℕ) (s : ℕ) → to_resolve recycled stub ≡ Some s → IsToResolve recycled stub s
 is_to_resolve recycled None s is = absurd (cc)

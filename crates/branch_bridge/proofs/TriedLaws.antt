@@ -1,11 +1,11 @@
 -- Operations on pages of the pool: what stands after them.
-use Rattle.std.proofs.Common.{◌≡◌, ℕ, ◌+◌, ◌*◌, ◌/◌, ◌<◌, ◌≤◌, ◌⊎◌, Bool, true, false, List, [], ◌∷◌, length, take, length-take, Option, Some, None, arith, refl, sym, ap, ◌∙◌, inl, inr, subst}
+use Rattle.std.proofs.Common.{◌≡◌, ℕ, ◌+◌, ◌*◌, ◌/◌, ◌<◌, ◌≤◌, ◌⊎◌, Bool, true, false, List, [], ◌∷◌, length, take, length-take, Option, Some, None, arith, refl, sym, ap, ◌∙◌, inl, inr, ⊎_elim}
 use Rattle.std.specs.Prelude.{if◌then◌else◌, IfSome, MatchOption, ◌==◌, ⊤}
 use Rattle.std.specs.List.{list_any}
 use Rattle.std.proofs.lemmas.Bool.{cases_eq, cases_lt}
 use Rattle.std.proofs.lemmas.Grind.{same_number_lists}
 use Rattle.std.proofs.lemmas.List.{get_or-take}
-use Rattle.base_laws.proofs.ManyLaws.{length-many}
+use Rattle.base.proofs.ManyLaws.{length-many}
 use Rattle.flash_words.specs.Pages.{word_count, page_words, word_at, page_of, set_page, blank}
 use Rattle.flash_words.specs.Memory.{Memory}
 use Rattle.flash_words.specs.Operations.{next_op, fails, left_by_refusal, erased_page, programmed_page}
@@ -33,7 +33,7 @@ tried_none layout m = record {
 
 -- more are tried
 listed_on : (old mid : Memory) (op : ℕ) → mid.failing ≡ old.failing → is_listed mid op ≡ is_listed old op
-listed_on old mid op same = ap (λ failing. list_any (λ n. n == op) failing) same
+listed_on old mid op same = ap (list_any (λ n. n == op)) same
 
 refusal_on : (layout : Layout) (old mid new : Memory) (stop : ResolveStop) → Tried layout old mid None → IsRefusal layout mid new stop → IsRefusal layout old new stop
 refusal_on layout old mid new stop before refusal = record {
@@ -84,7 +84,8 @@ torn_there layout m (Program true page words) on = record { pool = on.0; blank =
 torn_there layout m (Program false page words) on = tt
 
 -- one that is refused
-tried_refused : (layout : Layout) (m : Memory) (operation : Operation) → fails m ≡ true → IsOnPool layout m operation → Tried layout m (left_by_refusal m (operated_page operation)) (Some (stop_at m operation))
+tried_refused : (layout : Layout) (m : Memory) (operation : Operation) → fails m ≡ true → IsOnPool layout m operation
+    → Tried layout m (left_by_refusal m (operated_page operation)) (Some (stop_at m operation))
 tried_refused layout m operation listed on = record {
   failing = refl;
   counted = omega arith;
@@ -106,11 +107,8 @@ tried_refused layout m operation listed on = record {
 -- one that is done
 beside_page : (layout : Layout) (page a : ℕ) → IsPool layout page → ¬ IsPool layout (a / page_words) → (a < page_words * page) ⊎ (page_words * page + page_words ≤ a)
 beside_page layout page a pool away = elim (cases_eq (a / page_words) page) [
-  | inl is ↦ absurd (away (subst (λ p. IsPool layout p) (sym is) pool))
-  | inr apart ↦ elim (cases_lt (a / page_words) page) [
-    | inl below ↦ inl (omega arith)
-    | inr above ↦ inr (omega arith)
-  ]
+  | inl is ↦ absurd (away (rw is pool))
+  | inr apart ↦ ⊎_elim (λ below. inl (omega arith)) (λ above. inr (omega arith)) (cases_lt (a / page_words) page)
 ]
 
 tried_set : (layout : Layout) (m m' : Memory) (page : ℕ) (words : List ℕ) → IsRight layout → length m.words ≡ word_count → IsPool layout page → length words ≡ page_words → fails m ≡ false
@@ -133,7 +131,8 @@ length-blank : length blank ≡ page_words
 unfolding blank
 length-blank = length-many page_words 0xFFFF
 
-tried_done : (layout : Layout) (m : Memory) (operation : Operation) → IsRight layout → length m.words ≡ word_count → fails m ≡ false → IsOnPool layout m operation → Tried layout m (operated m operation) None
+tried_done : (layout : Layout) (m : Memory) (operation : Operation) → IsRight layout → length m.words ≡ word_count → fails m ≡ false → IsOnPool layout m operation
+    → Tried layout m (operated m operation) None
 tried_done layout m (Erase page) right whole unlisted on = tried_set layout m (erased_page m page) page blank right whole on length-blank unlisted refl refl refl refl
 tried_done layout m (Program again page words) right whole unlisted on = tried_set layout m (programmed_page m page words) page words right whole on.0 on.1 unlisted refl refl refl refl
 
@@ -155,16 +154,17 @@ tried_performed layout m (operation ∷ operations) right whole on =
 -- .. that end so
 pub tried_as : (layout : Layout) (m m' : Memory) (stop : Option ResolveStop) (operations : List Operation) → IsRight layout → length m.words ≡ word_count → AreOnPool layout m operations
     → perform m operations ≡ record { memory = m'; stop = stop } → Tried layout m m' stop
-tried_as layout m m' stop operations right whole on is =
-    subst (λ (p : Performed). Tried layout m p.memory p.stop) is (tried_performed layout m operations right whole on)
+tried_as layout m m' stop operations right whole on is = rw is at (tried_performed layout m operations right whole on)
 
 -- a page that is erased and programmed
-pub rewriting_on_pool : (layout : Layout) (m : Memory) (page : ℕ) (words : List ℕ) → IsRight layout → length m.words ≡ word_count → IsPool layout page → length words ≡ page_words → AreOnPool layout m (rewriting page words)
+pub rewriting_on_pool : (layout : Layout) (m : Memory) (page : ℕ) (words : List ℕ) → IsRight layout → length m.words ≡ word_count → IsPool layout page → length words ≡ page_words
+    → AreOnPool layout m (rewriting page words)
 rewriting_on_pool layout m page words right whole pool long =
     (pool, ((pool, long, λ again. erased_blank m page (omega (arith, whole, pool.to, right.pool_below_kernel))), tt))
 
 -- the image stays
-pub tried_image : (layout : Layout) (old new : Memory) (stop : Option ResolveStop) → IsRight layout → length old.words ≡ word_count → Tried layout old new stop → image_of layout new.words ≡ image_of layout old.words
+pub tried_image : (layout : Layout) (old new : Memory) (stop : Option ResolveStop) → IsRight layout → length old.words ≡ word_count → Tried layout old new stop
+    → image_of layout new.words ≡ image_of layout old.words
 tried_image layout old new stop right whole tried =
     let n = layout.image_words in
     let fits : n ≤ 65536 = omega (arith, right.image_fits) in

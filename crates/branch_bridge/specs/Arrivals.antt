@@ -1,7 +1,8 @@
 -- Arrivals: what becomes of flash and SRAM, and what is answered, where control arrives at an original address
 -- (docs/LOADER.md, "An arrival"). An operation on flash that is refused ends it: what comes before is done, it and
 -- what comes after is not.
-use Rattle.std.specs.Prelude.{◌≡◌, ◌≢◌, ◌↔◌, ℕ, ◌+◌, ◌*◌, ◌/◌, ◌%◌, ◌<◌, ◌≤◌, ◌==◌, Bool, true, false, if◌then◌else◌, List, [], ◌∷◌, min, Option, Some, None, Result, Ok, Err, IfOk, IfSome, MatchOption, ⊤}
+use Rattle.std.specs.Prelude.{◌≡◌, ◌≢◌, ◌↔◌, ℕ, ◌+◌, ◌*◌, ◌/◌, ◌%◌, ◌<◌, ◌≤◌, ◌==◌, Bool, true, false, if◌then◌else◌, List, [], ◌∷◌, min}
+use Rattle.std.specs.Prelude.{Option, Some, None, Result, Ok, Err, IfOk, IfSome, MatchOption, ⊤}
 use Rattle.sram_layout.specs.Bytes.{data_word_at, with_word}
 use Rattle.sram_layout.specs.Cells.{ring_cell}
 use Rattle.sram_layout.specs.Regions.{place_cells, KeepsOutside}
@@ -146,7 +147,8 @@ pub record Kept (layout : Layout) (old new : Store) (t : ℕ) (result : Result M
 -- recycled for it. `place` is where control goes on, `made` whether a page was made, also where it was refused then.
 pub data ArrivesFrom (layout : Layout) (old new : Store) (t : ℕ) (stub : Option ℕ) (arrival : Arrival) : Type 0 where
   Stopped : (refused : Refused) → Arrives layout old new t (Err refused) → arrival ≡ record { place = None; made = false; refused = Some refused } → ArrivesFrom layout old new t stub arrival
-  Went : (moved : Moved) → Arrives layout old new t (Ok moved) → to_resolve moved.recycled stub ≡ None → arrival ≡ record { place = Some moved.place; made = moved.made; refused = None } → ArrivesFrom layout old new t stub arrival
+  Went : (moved : Moved) → Arrives layout old new t (Ok moved) → to_resolve moved.recycled stub ≡ None → arrival ≡ record { place = Some moved.place; made = moved.made; refused = None }
+      → ArrivesFrom layout old new t stub arrival
   Resolved : (mid : Store) → (moved : Moved) → (s : ℕ) → Arrives layout old mid t (Ok moved) → to_resolve moved.recycled stub ≡ Some s → (stop : Option ResolveStop)
       → perform mid.flash (resolving mid.flash.words s moved.place) ≡ record { memory = new.flash; stop = stop } → new.sram ≡ mid.sram
       → arrival ≡ record { place = Some moved.place; made = moved.made; refused = option_map refused_by stop } → ArrivesFrom layout old new t stub arrival

@@ -9,14 +9,15 @@ ghost use Rattle.nat_page.specs.Faithful.{IsFaithful};
 ghost use Rattle.nat_page.specs.Making.{HasNoEntry, HasNoFree};
 ghost use Rattle.branch_bridge.specs.Operating.{with_torn};
 ghost use Rattle.branch_bridge.specs.Tried.{Tried};
-ghost use Rattle.branch_bridge.specs.Arrivals.{KeepsOtherBytes, Makes, Recycles, Arrives, refusal_in, stopped_by, torn_in, ring_of, turned, recycled_page, Kept, KeepsEntries, made_in, one_if};
+ghost use Rattle.branch_bridge.specs.Arrivals.{KeepsOtherBytes, Makes, Recycles, Arrives, refusal_in, refused_by, stopped_by, torn_in, ring_of, turned, recycled_page, Kept, KeepsEntries, made_in, one_if};
 ghost use Rattle.nat_page.specs.Used.{used_pages};
 ghost use Rattle.branch_bridge.specs.declared.arrival.ArriveStop.TheVariants as stops;
 
-use crate::rewriting::{Torn, lacking};
+use crate::rewriting::{ResolveStop, Torn, lacking};
 use crate::unresolving::unresolve;
 use addr_tables::{find_with_hints, forget_page, note};
 use flash_model::{Flash, Layout, PAGE_WORDS};
+use flash_words::FlashStop;
 use kept_drafts::{Hints, KeptDraft, KeptDrafts};
 use page_index::unmark_offsets;
 use sram_layout::Sram;
@@ -43,6 +44,28 @@ pub struct Refused {
     pub why: ArriveStop,
     /// The page that lacks its words, where one was erased for it.
     pub torn: Option<Torn>,
+}
+
+impl From<ResolveStop> for Refused {
+    ghost from_gives = { λ stop refused. refused ≡ refused_by stop };
+
+    fn from(stop: ResolveStop) -> Refused {
+        Refused {
+            why: ArriveStop::Flash { op: stop.op },
+            torn: stop.torn,
+        }
+    }
+}
+
+impl From<FlashStop> for Refused {
+    ghost from_gives = { λ stop refused. refused ≡ refused_by (record { op = stop.op; torn = Nothing }) };
+
+    fn from(stop: FlashStop) -> Refused {
+        Refused::from(ResolveStop {
+            op: stop.op,
+            torn: None,
+        })
+    }
 }
 
 /// Where control goes on.
@@ -161,23 +184,13 @@ fn recycle(
     let victim = layout.pool_first + sram.ring();
     match unresolve(flash, layout, victim) {
         Ok(()) => {}
-        Err(stop) => {
-            return Err(Refused {
-                why: ArriveStop::Flash { op: stop.op },
-                torn: stop.torn,
-            });
-        }
+        Err(stop) => return Err(Refused::from(stop)),
     }
     forget_page(sram, victim);
     unmark_offsets(flash, victim, t / PAGE_WORDS, known);
     match flash.erase(victim) {
         Ok(()) => {}
-        Err(stop) => {
-            return Err(Refused {
-                why: ArriveStop::Flash { op: stop.op },
-                torn: None,
-            });
-        }
+        Err(stop) => return Err(Refused::from(stop)),
     }
     turn(sram, layout);
     make_page(sram, flash, layout, drafts, known, victim, t, true)
@@ -222,10 +235,10 @@ fn make_page(
                 recycled: recycled(again, page),
             })
         }
-        Err(stop) => Err(Refused {
-            why: ArriveStop::Flash { op: stop.op },
+        Err(stop) => Err(Refused::from(ResolveStop {
+            op: stop.op,
             torn: lacking(again, page, words),
-        }),
+        })),
     }
 }
 

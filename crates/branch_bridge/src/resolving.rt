@@ -18,7 +18,7 @@ use nat_template::resolved;
 
 /// Resolves the stub whose call of the kernel's bridge stands at the word address `stub`: a jump to `place`,
 /// the place of the address that the stub leads to, takes the place of the call. The stub's page is erased
-/// and programmed once. `layout` serves the contract alone.
+/// and programmed once. The contract speaks of the pool of this layout; the code needs none.
 pub fn resolve(flash: &mut Flash, layout: &Layout, stub: u16, place: u16) -> Result<(), ResolveStop>
     requires right { IsRight layout.now }
     requires code { IsFaithful layout.now (image_of layout.now flash.old.words) flash.old.words }

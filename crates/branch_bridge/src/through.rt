@@ -11,7 +11,7 @@ ghost use Rattle.branch_bridge.specs.Arrivals.{ArrivesFrom, CameThrough, KeptThr
 ghost use Rattle.branch_bridge.specs.KnownPlaces.{IsKnownAt};
 ghost use Rattle.branch_bridge.specs.Operating.{stop_of};
 
-use crate::arrival::{ArriveStop, Moved, Refused, arrive_with_hints};
+use crate::arrival::{Moved, Refused, arrive_with_hints};
 use crate::resolving::resolve;
 use crate::rewriting::ResolveStop;
 use addr_tables::note;
@@ -110,9 +110,6 @@ fn refusal(resolved: Result<(), ResolveStop>) -> Option<Refused>
 {
     match resolved {
         Ok(()) => None,
-        Err(stop) => Some(Refused {
-            why: ArriveStop::Flash { op: stop.op },
-            torn: stop.torn,
-        }),
+        Err(stop) => Some(Refused::from(stop)),
     }
 }

@@ -20,9 +20,9 @@ mod source;
 mod standard;
 mod words;
 
+pub use base::NoMemory;
 pub use edge::{Reader, Writer};
 pub use failure::{Failed, ReadAll};
-pub use no_memory::NoMemory;
 pub use null::NullSink;
 pub use sink::{Sink, put};
 pub use source::{Source, read_all};

@@ -1,6 +1,6 @@
 //! The words of the process's command line.
 
-use no_memory::NoMemory;
+use base::NoMemory;
 use std::env;
 use std::io::ErrorKind;
 

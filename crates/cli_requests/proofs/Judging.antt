@@ -3,7 +3,7 @@ use Rattle.std.proofs.Common.{◌≡◌, ℕ, ◌≤◌, List, drop, length, len
 use Rattle.std.specs.Prelude.{◌⊎◌}
 use Rattle.std.proofs.lemmas.List.{take_all}
 use Rattle.hex_image.specs.HexText.{HexText, end_line}
-use Rattle.line_reader.proofs.TextLaws.{front-short}
+use Rattle.text_lines.proofs.TextLaws.{front-short}
 use Rattle.byte_streams.specs.Streams.{Input, TakesAtMost}
 use Rattle.cli_words.specs.declared.job.Job.{Job}
 use Rattle.cli_words.specs.Commands.{RunsAProgram}

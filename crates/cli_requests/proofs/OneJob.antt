@@ -6,7 +6,7 @@ use Rattle.hex_image.specs.declared.fault.HexFault.{HexFault}
 use Rattle.input_script.specs.Script.{Schedule, IsScript, script_fault}
 use Rattle.input_script.specs.declared.fault.ScriptFault.{ScriptFault}
 use Rattle.input_script.proofs.Judgement as scripts
-use Rattle.line_reader.proofs.FaultLaws as faults
+use Rattle.text_lines.proofs.FaultLaws as faults
 use Rattle.task_input.specs.Scripts.{Schedules, scripts_fault}
 use Rattle.task_input.proofs.FirstFaults.{first_one, schedules_apart, schedules_one}
 use Rattle.cli_words.specs.declared.command.Command.{Command}

@@ -8,8 +8,8 @@ use Rattle.std.specs.Str.Pattern.{FindsTextPrefix, StripsPrefix}
 use denote.Ref.{Bor}
 use Rattle.input_script.specs.Grammar.{number_of}
 use Rattle.input_script.proofs.Digits.{number_digits}
-use Rattle.line_reader.specs.Stripping.{stripped}
-use Rattle.line_reader.proofs.StripLaws.{front_stripped, stripped_front}
+use Rattle.text_lines.specs.Stripping.{stripped}
+use Rattle.text_lines.proofs.StripLaws.{front_stripped, stripped_front}
 use Rattle.cli_words.specs.declared.table.Row.{Row}
 use Rattle.cli_words.specs.declared.table.Parameter.{Parameter}
 use Rattle.cli_words.specs.declared.table.Parameter.TheVariants.{Seed, Count}

@@ -1,7 +1,7 @@
 -- Serves private functions: the numbers of a command while they are read.
 use Rattle.std.specs.Prelude.{ℕ, ◌==◌, if◌then◌else◌, List, [], ◌∷◌, Option, Some, None, option_map}
 use Rattle.std.specs.Option.{option_map_or, option_or}
-use Rattle.line_reader.specs.Stripping.{stripped}
+use Rattle.text_lines.specs.Stripping.{stripped}
 use Rattle.cli_words.specs.declared.table.Row.{Row}
 use Rattle.cli_words.specs.declared.table.Parameter.{Parameter}
 use Rattle.cli_words.specs.declared.table.Parameter.TheVariants.{Seed}

@@ -4,7 +4,7 @@ use crate::output::Output;
 use crate::request::{Request, TaskRequest};
 use crate::status::Status;
 use input_script::Script;
-use line_writer::Text;
+use text_lines::Text;
 
 /// What is asked for, once the words and the input are judged.
 #[derive(Drop)]

@@ -1,10 +1,10 @@
 -- What the range of an instruction's operands says of them.
-use Rattle.std.proofs.Common.{ℕ, pos, negsuc, ◌<◌, ◌&&◌, IsTrue, arith}
+use Rattle.std.proofs.Common.{ℕ, ◌<◌, ◌&&◌, IsTrue, arith}
 use Rattle.std.proofs.lemmas.Bool.{and_parts}
 use Rattle.std.proofs.lemmas.Bool.Decides.{nat_tests}
 use Rattle.std.specs.Prelude.{nat_lt}
 use Rattle.avr_isa.specs.declared.form.Form.{Form}
-use Rattle.avr_isa.specs.InstructionTable.{two_pairs, two_high_registers, pair_and_six_bits, flag_and_branch, jump}
+use Rattle.avr_isa.specs.InstructionTable.{two_pairs, two_high_registers, pair_and_six_bits}
 use Rattle.avr_isa.specs.Instruction.{fields_in_range, is_valid}
 
 pub fields_fit : (f : Form) → IsTrue (is_valid f) → IsTrue (fields_in_range f)
@@ -31,15 +31,3 @@ high_below high opcode d r h =
 
 pub pair_and_below : (opcode p k : ℕ) → IsTrue (pair_and_six_bits opcode p k).in_range → (p < 32) × (k < 64)
 pair_and_below opcode p k h = (grind (arith, nat_tests), is_below 64 k (and_parts _ _ h).1)
-
-pub forward_branch : (s k : ℕ) → IsTrue (flag_and_branch 0 s (pos k)).in_range → (s < 8) × (k < 64)
-forward_branch s k h = (is_below 8 s (and_parts _ _ h).0, grind (arith, nat_tests))
-
-pub backward_branch : (s k : ℕ) → IsTrue (flag_and_branch 0 s (negsuc k)).in_range → (s < 8) × (k < 64)
-backward_branch s k h = (is_below 8 s (and_parts _ _ h).0, grind (arith, nat_tests))
-
-pub forward_jump : (k : ℕ) → IsTrue (jump 0 (pos k)).in_range → k < 2048
-forward_jump k h = grind (arith, nat_tests)
-
-pub backward_jump : (k : ℕ) → IsTrue (jump 0 (negsuc k)).in_range → k < 2048
-backward_jump k h = grind (arith, nat_tests)

@@ -1,23 +1,24 @@
 -- The instructions whose leading bits are their own, before their operands: what their words mean is by
 -- arithmetic and not by computing all of them.
 use Rattle.std.proofs.Common.{◌≡◌, ℕ, ℤ, pos, negsuc, ◌+◌, ◌-◌, ◌*◌, ◌/◌, ◌%◌, ◌<◌, Bool, true, false, ◌||◌, ◌==◌, Some, IsTrue, refl, arith}
-use Rattle.std.proofs.lemmas.Bool.{eqb-true}
+use Rattle.std.proofs.lemmas.Bool.{and_parts, eqb-true}
 use Rattle.std.proofs.lemmas.Bool.Decides.{nat_tests}
 use Rattle.std.specs.Prelude.{nat_lt}
 use Rattle.avr_isa.specs.declared.form.Form.{Form}
 use Rattle.avr_isa.specs.declared.form.Form.TheVariants.{Brbs, Brbc, Cbi, Sbic, Sbi, Sbis, LoadOff, StoreOff, Cpse, Imm, InIo, OutIo, Rcall, Rjmp, Two}
 use Rattle.avr_isa.specs.declared.operation.ImmOp.{ImmOp}
-use Rattle.avr_isa.specs.declared.operation.ImmOp.TheVariants.{Cpi, Sbci, Subi, Ori, Andi, Ldi}
+use Rattle.avr_isa.specs.declared.operation.ImmOp.TheVariants.{Cpi}
 use Rattle.avr_isa.specs.declared.operation.TwoOp.{TwoOp}
-use Rattle.avr_isa.specs.declared.operation.TwoOp.TheVariants.{Cpc, Sbc, Add, Cp, Sub, Adc, And, Eor, Or, Mov, Mul}
+use Rattle.avr_isa.specs.declared.operation.TwoOp.TheVariants.{Cpc}
 use Rattle.avr_isa.specs.declared.operation.Base.{Base}
 use Rattle.avr_isa.specs.declared.operation.Base.TheVariants.{Y, Z}
-use Rattle.avr_isa.specs.InstructionTable.{imm_opcode, two_opcode, io_and_bit, register_and_displacement, high_register_and_byte, two_registers, register_and_io}
+use Rattle.avr_isa.specs.InstructionTable.{imm_opcode, two_opcode, flag_and_branch, jump, io_and_bit, register_and_displacement, high_register_and_byte, two_registers, register_and_io}
 use Rattle.avr_isa.specs.Instruction.{is_valid, fields_in_range}
 use Rattle.avr_isa.specs.UndefinedPairs.{is_undefined}
 use Rattle.avr_isa.specs.Encoding.{first_word}
-use Rattle.avr_decode.specs.Decoding.{form_1111, branch_of, io_bit_form, low_io_of, bit_of, displaced_form, displacement_of, the_form, is_long, one_word_form, form_0000, form_0001, form_0010, form_1001, io_form, defined_form, if_defined, immediate_of, high_destination_of, constant_of, destination_of, source_of, io_of, jump_of}
-use Rattle.decode_laws.proofs.Bounds.{backward_branch, forward_branch, backward_jump, both_below, fields_fit, forward_jump}
+use Rattle.avr_decode.specs.Decoding.{form_1111, branch_of, io_bit_form, low_io_of, bit_of, displaced_form, displacement_of, the_form, is_long, one_word_form, form_0000, form_0001, form_0010}
+use Rattle.avr_decode.specs.Decoding.{form_1001, io_form, defined_form, if_defined, immediate_of, high_destination_of, constant_of, destination_of, source_of, io_of, jump_of}
+use Rattle.decode_laws.proofs.Bounds.{both_below, fields_fit, is_below}
 
 -- a word of one word's instruction means what it begins
 means : (first w : ℕ) (f : Form) → is_long first ≡ false → one_word_form first ≡ Some f → is_undefined f ≡ false → the_form first w ≡ Some f
@@ -57,16 +58,7 @@ fourth n m w part leading = omega arith
 pub two_begins : (op : TwoOp) → Registers (λ d r. Two op d r) (two_opcode op / 1024)
 unfolding one_word_form form_0000 form_0001 form_0010 form_1001
 two_begins Cpc w leading = rw (fourth 1 0 w refl leading, leading) refl
-two_begins Sbc w leading = rw (fourth 2 0 w refl leading, leading) refl
-two_begins Add w leading = rw (fourth 3 0 w refl leading, leading) refl
-two_begins Cp w leading = rw (fourth 5 1 w refl leading, leading) refl
-two_begins Sub w leading = rw (fourth 6 1 w refl leading, leading) refl
-two_begins Adc w leading = rw (fourth 7 1 w refl leading, leading) refl
-two_begins And w leading = rw (fourth 8 2 w refl leading, leading) refl
-two_begins Eor w leading = rw (fourth 9 2 w refl leading, leading) refl
-two_begins Or w leading = rw (fourth 10 2 w refl leading, leading) refl
-two_begins Mov w leading = rw (fourth 11 2 w refl leading, leading) refl
-two_begins Mul w leading = rw (fourth 39 9 w refl leading, leading) refl
+two_begins op w leading = rw (fourth (two_opcode op / 1024) (two_opcode op / 4096) w refl leading, leading) refl
 
 pub cpse_begins : Registers (λ d r. Cpse d r) 4
 unfolding one_word_form form_0001
@@ -75,16 +67,7 @@ cpse_begins w leading = rw (fourth 4 1 w refl leading, leading) refl
 pub two_complete : (op : TwoOp) (d r w : ℕ) → IsTrue (is_valid (Two op d r)) → the_form (first_word (Two op d r)) w ≡ Some (Two op d r)
 unfolding first_word fields_in_range is_undefined
 two_complete Cpc d r w valid = by_six 1 (λ d r. Two Cpc d r) d r w refl (two_begins Cpc) refl (fields_fit (Two Cpc d r) valid)
-two_complete Sbc d r w valid = by_six 2 (λ d r. Two Sbc d r) d r w refl (two_begins Sbc) refl (fields_fit (Two Sbc d r) valid)
-two_complete Add d r w valid = by_six 3 (λ d r. Two Add d r) d r w refl (two_begins Add) refl (fields_fit (Two Add d r) valid)
-two_complete Cp d r w valid = by_six 5 (λ d r. Two Cp d r) d r w refl (two_begins Cp) refl (fields_fit (Two Cp d r) valid)
-two_complete Sub d r w valid = by_six 6 (λ d r. Two Sub d r) d r w refl (two_begins Sub) refl (fields_fit (Two Sub d r) valid)
-two_complete Adc d r w valid = by_six 7 (λ d r. Two Adc d r) d r w refl (two_begins Adc) refl (fields_fit (Two Adc d r) valid)
-two_complete And d r w valid = by_six 8 (λ d r. Two And d r) d r w refl (two_begins And) refl (fields_fit (Two And d r) valid)
-two_complete Eor d r w valid = by_six 9 (λ d r. Two Eor d r) d r w refl (two_begins Eor) refl (fields_fit (Two Eor d r) valid)
-two_complete Or d r w valid = by_six 10 (λ d r. Two Or d r) d r w refl (two_begins Or) refl (fields_fit (Two Or d r) valid)
-two_complete Mov d r w valid = by_six 11 (λ d r. Two Mov d r) d r w refl (two_begins Mov) refl (fields_fit (Two Mov d r) valid)
-two_complete Mul d r w valid = by_six 39 (λ d r. Two Mul d r) d r w refl (two_begins Mul) refl (fields_fit (Two Mul d r) valid)
+two_complete op d r w valid = by_six (two_opcode op / 1024) (λ d r. Two op d r) d r w refl (two_begins op) refl (fields_fit (Two op d r) valid)
 
 pub cpse_complete : (d r w : ℕ) → IsTrue (is_valid (Cpse d r)) → the_form (first_word (Cpse d r)) w ≡ Some (Cpse d r)
 unfolding first_word fields_in_range is_undefined
@@ -93,7 +76,8 @@ cpse_complete d r w valid = by_six 4 (λ d r. Cpse d r) d r w refl cpse_begins r
 -- A register and a constant, after four bits. ------------------------------------------------------
 
 fields_of : (n d k : ℕ) → IsTrue (high_register_and_byte (4096 * n) d k).in_range
-    → ((high_register_and_byte (4096 * n) d k).first / 4096 ≡ n) × (high_destination_of (high_register_and_byte (4096 * n) d k).first ≡ d) × (constant_of (high_register_and_byte (4096 * n) d k).first ≡ k)
+    → ((high_register_and_byte (4096 * n) d k).first / 4096 ≡ n) × (high_destination_of (high_register_and_byte (4096 * n) d k).first ≡ d)
+    × (constant_of (high_register_and_byte (4096 * n) d k).first ≡ k)
 fields_of n d k fits =
     let ranges : (15 < d) × (d < 32) × (k < 256) = grind (arith, nat_tests) in
     let leading : (high_register_and_byte (4096 * n) d k).first / 4096 ≡ n = omega arith in
@@ -119,31 +103,23 @@ by_leading n op d k w other begins fits =
 pub begins : (op : ImmOp) → Begins op (imm_opcode op / 4096)
 unfolding one_word_form
 begins Cpi w leading = rw leading refl
-begins Sbci w leading = rw leading refl
-begins Subi w leading = rw leading refl
-begins Ori w leading = rw leading refl
-begins Andi w leading = rw leading refl
-begins Ldi w leading = rw leading refl
+begins _ w leading = rw leading refl
 
 pub immediate_complete : (op : ImmOp) (d k w : ℕ) → IsTrue (is_valid (Imm op d k)) → the_form (first_word (Imm op d k)) w ≡ Some (Imm op d k)
 unfolding first_word fields_in_range
 immediate_complete Cpi d k w valid = by_leading 3 Cpi d k w refl (begins Cpi) (fields_fit (Imm Cpi d k) valid)
-immediate_complete Sbci d k w valid = by_leading 4 Sbci d k w refl (begins Sbci) (fields_fit (Imm Sbci d k) valid)
-immediate_complete Subi d k w valid = by_leading 5 Subi d k w refl (begins Subi) (fields_fit (Imm Subi d k) valid)
-immediate_complete Ori d k w valid = by_leading 6 Ori d k w refl (begins Ori) (fields_fit (Imm Ori d k) valid)
-immediate_complete Andi d k w valid = by_leading 7 Andi d k w refl (begins Andi) (fields_fit (Imm Andi d k) valid)
-immediate_complete Ldi d k w valid = by_leading 14 Ldi d k w refl (begins Ldi) (fields_fit (Imm Ldi d k) valid)
+immediate_complete op d k w valid = by_leading (imm_opcode op / 4096) op d k w refl (begins op) (fields_fit (Imm op d k) valid)
 
 -- A distance, after four bits. ---------------------------------------------------------------------
 
-forward_of : (n k : ℕ) → k < 2048 → ((4096 * n + k) / 4096 ≡ n) × (jump_of (4096 * n + k) ≡ pos k)
-forward_of n k fits =
+distance_of : (n : ℕ) (k : ℤ) → IsTrue (jump 0 k).in_range → ((jump (4096 * n) k).first / 4096 ≡ n) × (jump_of (jump (4096 * n) k).first ≡ k)
+distance_of n (pos k) fits =
+    let bound : k < 2048 = grind (arith, nat_tests) in
     let low : (4096 * n + k) % 4096 ≡ k = omega arith in
     let sign : nat_lt k 2048 ≡ true = grind (arith, nat_tests) in
     (omega arith, rw (low, sign) refl)
-
-backward_of : (n k : ℕ) → k < 2048 → ((4096 * n + (4095 - k)) / 4096 ≡ n) × (jump_of (4096 * n + (4095 - k)) ≡ negsuc k)
-backward_of n k fits =
+distance_of n (negsuc k) fits =
+    let bound : k < 2048 = grind (arith, nat_tests) in
     let low : (4096 * n + (4095 - k)) % 4096 ≡ 4095 - k = omega arith in
     let sign : nat_lt (4095 - k) 2048 ≡ false = grind (arith, nat_tests) in
     let back : 4095 - (4095 - k) ≡ k = omega arith in
@@ -152,9 +128,13 @@ backward_of n k fits =
 abbrev pub Jumps : (ℤ → Form) → ℕ → Type 0
 Jumps form n = (w : ℕ) → w / 4096 ≡ n → one_word_form w ≡ Some (form (jump_of w))
 
-by_jump : (n first : ℕ) (k : ℤ) (form : ℤ → Form) (w : ℕ) → (n == 9) ≡ false → Jumps form n → is_undefined (form k) ≡ false → (first / 4096 ≡ n) × (jump_of first ≡ k) → the_form first w ≡ Some (form k)
-by_jump n first k form w other begins defined fields =
-    means first w (form k) (short_by_leading n first other fields.0) (rw (begins first fields.0, fields.1) refl) defined
+by_jump : (n : ℕ) (k : ℤ) (form : ℤ → Form) (w : ℕ) → (n == 9) ≡ false → Jumps form n → is_undefined (form k) ≡ false → IsTrue (jump 0 k).in_range
+    → the_form (jump (4096 * n) k).first w ≡ Some (form k)
+by_jump n k form w other begins defined fits =
+    let first : ℕ = (jump (4096 * n) k).first in
+    let fields = distance_of n k fits in
+    let one : one_word_form first ≡ Some (form k) = rw (begins first fields.0, fields.1) refl in
+    means first w (form k) (short_by_leading n first other fields.0) one defined
 
 pub rjmp_begins : Jumps (λ k. Rjmp k) 12
 unfolding one_word_form
@@ -166,13 +146,11 @@ rcall_begins w leading = rw leading refl
 
 pub rjmp_complete : (k : ℤ) (w : ℕ) → IsTrue (is_valid (Rjmp k)) → the_form (first_word (Rjmp k)) w ≡ Some (Rjmp k)
 unfolding first_word fields_in_range is_undefined
-rjmp_complete (pos k) w valid = by_jump 12 (0xC000 + k) (pos k) (λ k. Rjmp k) w refl rjmp_begins refl (forward_of 12 k (forward_jump k (fields_fit (Rjmp (pos k)) valid)))
-rjmp_complete (negsuc k) w valid = by_jump 12 (0xC000 + (4095 - k)) (negsuc k) (λ k. Rjmp k) w refl rjmp_begins refl (backward_of 12 k (backward_jump k (fields_fit (Rjmp (negsuc k)) valid)))
+rjmp_complete k w valid = by_jump 12 k (λ k. Rjmp k) w refl rjmp_begins refl (fields_fit (Rjmp k) valid)
 
 pub rcall_complete : (k : ℤ) (w : ℕ) → IsTrue (is_valid (Rcall k)) → the_form (first_word (Rcall k)) w ≡ Some (Rcall k)
 unfolding first_word fields_in_range is_undefined
-rcall_complete (pos k) w valid = by_jump 13 (0xD000 + k) (pos k) (λ k. Rcall k) w refl rcall_begins refl (forward_of 13 k (forward_jump k (fields_fit (Rcall (pos k)) valid)))
-rcall_complete (negsuc k) w valid = by_jump 13 (0xD000 + (4095 - k)) (negsuc k) (λ k. Rcall k) w refl rcall_begins refl (backward_of 13 k (backward_jump k (fields_fit (Rcall (negsuc k)) valid)))
+rcall_complete k w valid = by_jump 13 k (λ k. Rcall k) w refl rcall_begins refl (fields_fit (Rcall k) valid)
 
 -- A register and a port, after five bits. ----------------------------------------------------------
 
@@ -194,19 +172,21 @@ pub out_begins : (w : ℕ) → w / 2048 ≡ 23 → one_word_form w ≡ Some (Out
 unfolding one_word_form io_form
 out_begins w leading = rw (half 23 11 w refl leading, leading) refl
 
+by_port : (n : ℕ) (form : ℕ → ℕ → Form) (d a w : ℕ) → n / 2 ≡ 11 → ((w : ℕ) → w / 2048 ≡ n → one_word_form w ≡ Some (form (destination_of w) (io_of w)))
+    → is_undefined (form d a) ≡ false → (d < 32) × (a < 64) → the_form (register_and_io (2048 * n) d a).first w ≡ Some (form d a)
+by_port n form d a w part begins defined ranges =
+    let first : ℕ = (register_and_io (2048 * n) d a).first in
+    let fields = port_of n d a ranges.0 ranges.1 in
+    let one : one_word_form first ≡ Some (form d a) = rw (begins first fields.0, fields.1, fields.2) refl in
+    means first w (form d a) (short_by_leading 11 first refl (half n 11 first part fields.0)) one defined
+
 pub in_complete : (d a w : ℕ) → IsTrue (is_valid (InIo d a)) → the_form (first_word (InIo d a)) w ≡ Some (InIo d a)
 unfolding first_word fields_in_range is_undefined
-in_complete d a w valid =
-    let ranges : (d < 32) × (a < 64) = both_below 32 64 d a (fields_fit (InIo d a) valid) in
-    let fields = port_of 22 d a ranges.0 ranges.1 in
-    means (register_and_io 0xB000 d a).first w (InIo d a) (short_by_leading 11 (register_and_io 0xB000 d a).first refl (half 22 11 (register_and_io 0xB000 d a).first refl fields.0)) (rw (in_begins (register_and_io 0xB000 d a).first fields.0, fields.1, fields.2) refl) refl
+in_complete d a w valid = by_port 22 (λ d a. InIo d a) d a w refl in_begins refl (both_below 32 64 d a (fields_fit (InIo d a) valid))
 
 pub out_complete : (a r w : ℕ) → IsTrue (is_valid (OutIo a r)) → the_form (first_word (OutIo a r)) w ≡ Some (OutIo a r)
 unfolding first_word fields_in_range is_undefined
-out_complete a r w valid =
-    let ranges : (r < 32) × (a < 64) = both_below 32 64 r a (fields_fit (OutIo a r) valid) in
-    let fields = port_of 23 r a ranges.0 ranges.1 in
-    means (register_and_io 0xB800 r a).first w (OutIo a r) (short_by_leading 11 (register_and_io 0xB800 r a).first refl (half 23 11 (register_and_io 0xB800 r a).first refl fields.0)) (rw (out_begins (register_and_io 0xB800 r a).first fields.0, fields.1, fields.2) refl) refl
+out_complete a r w valid = by_port 23 (λ r a. OutIo a r) r a w refl out_begins refl (both_below 32 64 r a (fields_fit (OutIo a r) valid))
 
 -- A register and a displacement, after bits apart. -------------------------------------------------
 
@@ -257,31 +237,27 @@ pub store_y_begins : Displaced (λ d q. StoreOff Y q d) 1 1
 unfolding displaced_form
 store_y_begins w apart = rw (displaced_by_test w (w / 4096 == 8) refl apart.high apart.middle, apart.store, apart.base) refl
 
-by_bits : (s y : ℕ) (form : ℕ → ℕ → Form) (d q w : ℕ) → s < 2 → y < 2 → Displaced form s y → is_undefined (form d q) ≡ false → d < 32 → q < 64
+by_bits : (s y : ℕ) (form : ℕ → ℕ → Form) (d q w : ℕ) → s < 2 → y < 2 → Displaced form s y → is_undefined (form d q) ≡ false → (d < 32) × (q < 64)
     → the_form (register_and_displacement (32768 + (512 * s + 8 * y)) d q).first w ≡ Some (form d q)
-by_bits s y form d q w store base begins defined register displacement =
+by_bits s y form d q w store base begins defined ranges =
     let first : ℕ = (register_and_displacement (32768 + (512 * s + 8 * y)) d q).first in
-    let fields = displaced_of s y d q store base register displacement in
+    let fields = displaced_of s y d q store base ranges.0 ranges.1 in
     let one : one_word_form first ≡ Some (form d q) = rw (begins first fields.0, fields.1, fields.2) refl in
     means first w (form d q) (short_apart s y first fields.0) one defined
 
 pub load_displaced_complete : (base : Base) (d q w : ℕ) → IsTrue (is_valid (LoadOff d base q)) → the_form (first_word (LoadOff d base q)) w ≡ Some (LoadOff d base q)
 unfolding first_word fields_in_range is_undefined
 load_displaced_complete Y d q w valid =
-    let ranges : (d < 32) × (q < 64) = both_below 32 64 d q (fields_fit (LoadOff d Y q) valid) in
-    by_bits 0 1 (λ d q. LoadOff d Y q) d q w (omega arith) (omega arith) load_y_begins refl ranges.0 ranges.1
+    by_bits 0 1 (λ d q. LoadOff d Y q) d q w (omega arith) (omega arith) load_y_begins refl (both_below 32 64 d q (fields_fit (LoadOff d Y q) valid))
 load_displaced_complete Z d q w valid =
-    let ranges : (d < 32) × (q < 64) = both_below 32 64 d q (fields_fit (LoadOff d Z q) valid) in
-    by_bits 0 0 (λ d q. LoadOff d Z q) d q w (omega arith) (omega arith) load_z_begins refl ranges.0 ranges.1
+    by_bits 0 0 (λ d q. LoadOff d Z q) d q w (omega arith) (omega arith) load_z_begins refl (both_below 32 64 d q (fields_fit (LoadOff d Z q) valid))
 
 pub store_displaced_complete : (base : Base) (q r w : ℕ) → IsTrue (is_valid (StoreOff base q r)) → the_form (first_word (StoreOff base q r)) w ≡ Some (StoreOff base q r)
 unfolding first_word fields_in_range is_undefined
 store_displaced_complete Y q r w valid =
-    let ranges : (r < 32) × (q < 64) = both_below 32 64 r q (fields_fit (StoreOff Y q r) valid) in
-    by_bits 1 1 (λ d q. StoreOff Y q d) r q w (omega arith) (omega arith) store_y_begins refl ranges.0 ranges.1
+    by_bits 1 1 (λ d q. StoreOff Y q d) r q w (omega arith) (omega arith) store_y_begins refl (both_below 32 64 r q (fields_fit (StoreOff Y q r) valid))
 store_displaced_complete Z q r w valid =
-    let ranges : (r < 32) × (q < 64) = both_below 32 64 r q (fields_fit (StoreOff Z q r) valid) in
-    by_bits 1 0 (λ d q. StoreOff Z q d) r q w (omega arith) (omega arith) store_z_begins refl ranges.0 ranges.1
+    by_bits 1 0 (λ d q. StoreOff Z q d) r q w (omega arith) (omega arith) store_z_begins refl (both_below 32 64 r q (fields_fit (StoreOff Z q r) valid))
 
 -- A port and a bit, after eight bits. --------------------------------------------------------------
 
@@ -309,50 +285,34 @@ by_eight m form a b w part begins defined ranges =
     let one : one_word_form first ≡ Some (form a b) = rw (begins first bits.0 bits.1 bits.2, fields.1, fields.2) refl in
     means first w (form a b) (short_by_six 38 first refl bits.1) one defined
 
-cbi_begins : PortBits (λ a b. Cbi a b) 0
-unfolding one_word_form form_1001 io_bit_form
-cbi_begins w four six two = rw (four, six, two) refl
-
 pub cbi_complete : (a b w : ℕ) → IsTrue (is_valid (Cbi a b)) → the_form (first_word (Cbi a b)) w ≡ Some (Cbi a b)
-unfolding first_word fields_in_range is_undefined
-cbi_complete a b w valid = by_eight 0 (λ a b. Cbi a b) a b w (omega arith) cbi_begins refl (both_below 32 8 a b (fields_fit (Cbi a b) valid))
-
-sbic_begins : PortBits (λ a b. Sbic a b) 1
-unfolding one_word_form form_1001 io_bit_form
-sbic_begins w four six two = rw (four, six, two) refl
+unfolding first_word fields_in_range is_undefined one_word_form form_1001 io_bit_form
+cbi_complete a b w valid = by_eight 0 (λ a b. Cbi a b) a b w (omega arith) (λ _ four six two. rw (four, six, two) refl) refl (both_below 32 8 a b (fields_fit (Cbi a b) valid))
 
 pub sbic_complete : (a b w : ℕ) → IsTrue (is_valid (Sbic a b)) → the_form (first_word (Sbic a b)) w ≡ Some (Sbic a b)
-unfolding first_word fields_in_range is_undefined
-sbic_complete a b w valid = by_eight 1 (λ a b. Sbic a b) a b w (omega arith) sbic_begins refl (both_below 32 8 a b (fields_fit (Sbic a b) valid))
-
-sbi_begins : PortBits (λ a b. Sbi a b) 2
-unfolding one_word_form form_1001 io_bit_form
-sbi_begins w four six two = rw (four, six, two) refl
+unfolding first_word fields_in_range is_undefined one_word_form form_1001 io_bit_form
+sbic_complete a b w valid = by_eight 1 (λ a b. Sbic a b) a b w (omega arith) (λ _ four six two. rw (four, six, two) refl) refl (both_below 32 8 a b (fields_fit (Sbic a b) valid))
 
 pub sbi_complete : (a b w : ℕ) → IsTrue (is_valid (Sbi a b)) → the_form (first_word (Sbi a b)) w ≡ Some (Sbi a b)
-unfolding first_word fields_in_range is_undefined
-sbi_complete a b w valid = by_eight 2 (λ a b. Sbi a b) a b w (omega arith) sbi_begins refl (both_below 32 8 a b (fields_fit (Sbi a b) valid))
-
-sbis_begins : PortBits (λ a b. Sbis a b) 3
-unfolding one_word_form form_1001 io_bit_form
-sbis_begins w four six two = rw (four, six, two) refl
+unfolding first_word fields_in_range is_undefined one_word_form form_1001 io_bit_form
+sbi_complete a b w valid = by_eight 2 (λ a b. Sbi a b) a b w (omega arith) (λ _ four six two. rw (four, six, two) refl) refl (both_below 32 8 a b (fields_fit (Sbi a b) valid))
 
 pub sbis_complete : (a b w : ℕ) → IsTrue (is_valid (Sbis a b)) → the_form (first_word (Sbis a b)) w ≡ Some (Sbis a b)
-unfolding first_word fields_in_range is_undefined
-sbis_complete a b w valid = by_eight 3 (λ a b. Sbis a b) a b w (omega arith) sbis_begins refl (both_below 32 8 a b (fields_fit (Sbis a b) valid))
+unfolding first_word fields_in_range is_undefined one_word_form form_1001 io_bit_form
+sbis_complete a b w valid = by_eight 3 (λ a b. Sbis a b) a b w (omega arith) (λ _ four six two. rw (four, six, two) refl) refl (both_below 32 8 a b (fields_fit (Sbis a b) valid))
 
 -- A flag and a distance, after six bits. -----------------------------------------------------------
 
-forward_branch_of : (n s k : ℕ) → s < 8 → k < 64 → ((1024 * n + (8 * k + s)) / 1024 ≡ n) × (bit_of (1024 * n + (8 * k + s)) ≡ s) × (branch_of (1024 * n + (8 * k + s)) ≡ pos k)
-forward_branch_of n s k flag distance =
+branch_fields : (n s : ℕ) (k : ℤ) → IsTrue (flag_and_branch 0 s k).in_range
+    → ((flag_and_branch (1024 * n) s k).first / 1024 ≡ n) × (bit_of (flag_and_branch (1024 * n) s k).first ≡ s) × (branch_of (flag_and_branch (1024 * n) s k).first ≡ k)
+branch_fields n s (pos k) fits =
+    let bounds : (s < 8) × (k < 64) = (is_below 8 s (and_parts _ _ fits).0, grind (arith, nat_tests)) in
     let bit : bit_of (1024 * n + (8 * k + s)) ≡ s = omega arith in
     let low : (1024 * n + (8 * k + s)) / 8 % 128 ≡ k = omega arith in
     let sign : nat_lt k 64 ≡ true = grind (arith, nat_tests) in
     (omega arith, bit, rw (low, sign) refl)
-
-backward_branch_of : (n s k : ℕ) → s < 8 → k < 64
-    → ((1024 * n + (8 * (127 - k) + s)) / 1024 ≡ n) × (bit_of (1024 * n + (8 * (127 - k) + s)) ≡ s) × (branch_of (1024 * n + (8 * (127 - k) + s)) ≡ negsuc k)
-backward_branch_of n s k flag distance =
+branch_fields n s (negsuc k) fits =
+    let bounds : (s < 8) × (k < 64) = (is_below 8 s (and_parts _ _ fits).0, grind (arith, nat_tests)) in
     let bit : bit_of (1024 * n + (8 * (127 - k) + s)) ≡ s = omega arith in
     let low : (1024 * n + (8 * (127 - k) + s)) / 8 % 128 ≡ 127 - k = omega arith in
     let sign : nat_lt (127 - k) 64 ≡ false = grind (arith, nat_tests) in
@@ -362,33 +322,18 @@ backward_branch_of n s k flag distance =
 abbrev Branches : (ℕ → ℤ → Form) → ℕ → Type 0
 Branches form n = (w : ℕ) → w / 1024 ≡ n → one_word_form w ≡ Some (form (bit_of w) (branch_of w))
 
-by_branch : (n first s : ℕ) (k : ℤ) (form : ℕ → ℤ → Form) (w : ℕ) → (n == 36) || (n == 37) ≡ false → Branches form n → is_undefined (form s k) ≡ false
-    → (first / 1024 ≡ n) × (bit_of first ≡ s) × (branch_of first ≡ k) → the_form first w ≡ Some (form s k)
-by_branch n first s k form w other begins defined fields =
-    means first w (form s k) (short_by_six n first other fields.0) (rw (begins first fields.0, fields.1, fields.2) refl) defined
-
-brbs_begins : Branches (λ s k. Brbs s k) 60
-unfolding one_word_form form_1111
-brbs_begins w leading = rw (fourth 60 15 w refl leading, leading) refl
+by_branch : (n s : ℕ) (k : ℤ) (form : ℕ → ℤ → Form) (w : ℕ) → (n == 36) || (n == 37) ≡ false → Branches form n → is_undefined (form s k) ≡ false
+    → IsTrue (flag_and_branch 0 s k).in_range → the_form (flag_and_branch (1024 * n) s k).first w ≡ Some (form s k)
+by_branch n s k form w other begins defined fits =
+    let first : ℕ = (flag_and_branch (1024 * n) s k).first in
+    let fields = branch_fields n s k fits in
+    let one : one_word_form first ≡ Some (form s k) = rw (begins first fields.0, fields.1, fields.2) refl in
+    means first w (form s k) (short_by_six n first other fields.0) one defined
 
 pub brbs_complete : (s : ℕ) (k : ℤ) (w : ℕ) → IsTrue (is_valid (Brbs s k)) → the_form (first_word (Brbs s k)) w ≡ Some (Brbs s k)
-unfolding first_word fields_in_range is_undefined
-brbs_complete s (pos k) w valid =
-    let ranges : (s < 8) × (k < 64) = forward_branch s k (fields_fit (Brbs s (pos k)) valid) in
-    by_branch 60 (0xF000 + (8 * k + s)) s (pos k) (λ s k. Brbs s k) w refl brbs_begins refl (forward_branch_of 60 s k ranges.0 ranges.1)
-brbs_complete s (negsuc k) w valid =
-    let ranges : (s < 8) × (k < 64) = backward_branch s k (fields_fit (Brbs s (negsuc k)) valid) in
-    by_branch 60 (0xF000 + (8 * (127 - k) + s)) s (negsuc k) (λ s k. Brbs s k) w refl brbs_begins refl (backward_branch_of 60 s k ranges.0 ranges.1)
-
-brbc_begins : Branches (λ s k. Brbc s k) 61
-unfolding one_word_form form_1111
-brbc_begins w leading = rw (fourth 61 15 w refl leading, leading) refl
+unfolding first_word fields_in_range is_undefined one_word_form form_1111
+brbs_complete s k w valid = by_branch 60 s k (λ s k. Brbs s k) w refl (λ v leading. rw (fourth 60 15 v refl leading, leading) refl) refl (fields_fit (Brbs s k) valid)
 
 pub brbc_complete : (s : ℕ) (k : ℤ) (w : ℕ) → IsTrue (is_valid (Brbc s k)) → the_form (first_word (Brbc s k)) w ≡ Some (Brbc s k)
-unfolding first_word fields_in_range is_undefined
-brbc_complete s (pos k) w valid =
-    let ranges : (s < 8) × (k < 64) = forward_branch s k (fields_fit (Brbc s (pos k)) valid) in
-    by_branch 61 (0xF400 + (8 * k + s)) s (pos k) (λ s k. Brbc s k) w refl brbc_begins refl (forward_branch_of 61 s k ranges.0 ranges.1)
-brbc_complete s (negsuc k) w valid =
-    let ranges : (s < 8) × (k < 64) = backward_branch s k (fields_fit (Brbc s (negsuc k)) valid) in
-    by_branch 61 (0xF400 + (8 * (127 - k) + s)) s (negsuc k) (λ s k. Brbc s k) w refl brbc_begins refl (backward_branch_of 61 s k ranges.0 ranges.1)
+unfolding first_word fields_in_range is_undefined one_word_form form_1111
+brbc_complete s k w valid = by_branch 61 s k (λ s k. Brbc s k) w refl (λ v leading. rw (fourth 61 15 v refl leading, leading) refl) refl (fields_fit (Brbc s k) valid)

@@ -26,27 +26,21 @@ defined_form-same : (g f : Form) → defined_form g ≡ Some f → g ≡ f
 unfolding defined_form
 defined_form-same g f = unless (is_undefined g) g f
 
-two_words_by_tests : (jump call load : Bool) (a d : ℕ) → size_of (cond jump (Jmp a) (cond call (Call a) (cond load (Lds d a) (Sts a d)))) ≡ 2
-unfolding size_of
-two_words_by_tests true call load a d = refl
-two_words_by_tests false true load a d = refl
-two_words_by_tests false false true a d = refl
-two_words_by_tests false false false a d = refl
+-- what holds of the four instructions of two words, holds of the one that the tests tell
+by_tests : (P : Form → Type 0) (jump call load : Bool) (a d : ℕ) → P (Jmp a) → P (Call a) → P (Lds d a) → P (Sts a d)
+    → P (cond jump (Jmp a) (cond call (Call a) (cond load (Lds d a) (Sts a d))))
+by_tests P true call load a d jmp called lds sts = jmp
+by_tests P false true load a d jmp called lds sts = called
+by_tests P false false true a d jmp called lds sts = lds
+by_tests P false false false a d jmp called lds sts = sts
 
 size_of-two_word_form : (w a : ℕ) → size_of (two_word_form w a) ≡ 2
-unfolding two_word_form
-size_of-two_word_form w a = two_words_by_tests _ _ _ a _
-
-defined_by_tests : (jump call load : Bool) (a d : ℕ) → is_undefined (cond jump (Jmp a) (cond call (Call a) (cond load (Lds d a) (Sts a d)))) ≡ false
-unfolding is_undefined
-defined_by_tests true call load a d = refl
-defined_by_tests false true load a d = refl
-defined_by_tests false false true a d = refl
-defined_by_tests false false false a d = refl
+unfolding two_word_form size_of
+size_of-two_word_form w a = by_tests (λ f. size_of f ≡ 2) _ _ _ a _ refl refl refl refl
 
 is_undefined-two_word_form : (w a : ℕ) → is_undefined (two_word_form w a) ≡ false
-unfolding two_word_form
-is_undefined-two_word_form w a = defined_by_tests _ _ _ a _
+unfolding two_word_form is_undefined
+is_undefined-two_word_form w a = by_tests (λ f. is_undefined f ≡ false) _ _ _ a _ refl refl refl refl
 
 one_word_size : (o : Option Form) (f : Form) (w : ℕ) → is_one_word w o ≡ true → if_defined o ≡ Some f → size_of f ≡ 1
 unfolding is_one_word if_defined

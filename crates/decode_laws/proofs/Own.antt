@@ -13,7 +13,8 @@ use Rattle.avr_isa.specs.InstructionTable.{register_and_displacement, high_regis
 use Rattle.avr_isa.specs.Instruction.{fields_in_range}
 use Rattle.avr_isa.specs.Encoding.{first_word, second_word}
 use Rattle.avr_decode.specs.Decoding.{displacement_of, one_word_form, constant_of, destination_of, high_destination_of, io_of, jump_of, source_of}
-use Rattle.decode_laws.proofs.Leading.{Apart, Displaced, load_y_begins, load_z_begins, store_y_begins, store_z_begins, Begins, Jumps, Registers, begins, in_begins, out_begins, rcall_begins, rjmp_begins, cpse_begins, two_begins}
+use Rattle.decode_laws.proofs.Leading.{Apart, Displaced, load_y_begins, load_z_begins, store_y_begins, store_z_begins, Begins, Jumps, Registers, begins, in_begins, out_begins, rcall_begins}
+use Rattle.decode_laws.proofs.Leading.{rjmp_begins, cpse_begins, two_begins}
 
 -- the form, if there is one, has one word, this one, and operands in range
 unfoldable pub is_one_word : ℕ → Option Form → Bool
@@ -74,19 +75,16 @@ displaced_fits s y form w means tests apart =
 bit : (n : ℕ) → (n % 2 == 1) ≡ false → n % 2 ≡ 0
 bit n h = grind (arith, nat_tests)
 
-not_one : (w m : ℕ) → (w / m % 2 == 1) ≡ false → w / m % 2 ≡ 0
-not_one w m h = bit (w / m) h
-
 apart_fits : (store base : Bool) (w : ℕ) → (w / 512 % 2 == 1) ≡ store → (w / 8 % 2 == 1) ≡ base → w / 16384 ≡ 2 → w / 4096 % 2 ≡ 0 → is_one_word w (one_word_form w) ≡ true
 unfolding is_one_word first_word fields_in_range second_word
 apart_fits true true w s y high middle =
     displaced_fits 1 1 (λ d q. StoreOff Y q d) w store_y_begins (λ d q w. refl) (record { high = high; middle = middle; store = eqb-true _ _ s; base = eqb-true _ _ y })
 apart_fits true false w s y high middle =
-    displaced_fits 1 0 (λ d q. StoreOff Z q d) w store_z_begins (λ d q w. refl) (record { high = high; middle = middle; store = eqb-true _ _ s; base = not_one w 8 y })
+    displaced_fits 1 0 (λ d q. StoreOff Z q d) w store_z_begins (λ d q w. refl) (record { high = high; middle = middle; store = eqb-true _ _ s; base = bit (w / 8) y })
 apart_fits false true w s y high middle =
-    displaced_fits 0 1 (λ d q. LoadOff d Y q) w load_y_begins (λ d q w. refl) (record { high = high; middle = middle; store = not_one w 512 s; base = eqb-true _ _ y })
+    displaced_fits 0 1 (λ d q. LoadOff d Y q) w load_y_begins (λ d q w. refl) (record { high = high; middle = middle; store = bit (w / 512) s; base = eqb-true _ _ y })
 apart_fits false false w s y high middle =
-    displaced_fits 0 0 (λ d q. LoadOff d Z q) w load_z_begins (λ d q w. refl) (record { high = high; middle = middle; store = not_one w 512 s; base = not_one w 8 y })
+    displaced_fits 0 0 (λ d q. LoadOff d Z q) w load_z_begins (λ d q w. refl) (record { high = high; middle = middle; store = bit (w / 512) s; base = bit (w / 8) y })
 
 pages_apart : (w : ℕ) → (w / 256 / 64 == 2) && (w / 256 / 16 % 2 == 0) ≡ true → is_one_word w (one_word_form w) ≡ true
 pages_apart w h =
@@ -110,10 +108,12 @@ four_bits n w h = let at : w / 256 / 16 ≡ n = eqb-true _ _ h in omega arith
 
 -- the first bytes of these instructions
 abbrev begins_wide : ℕ → Bool
-begins_wide p = (p / 16 == 3) || ((p / 16 == 4) || ((p / 16 == 5) || ((p / 16 == 6) || ((p / 16 == 7) || ((p / 16 == 14) || ((p / 16 == 12) || ((p / 16 == 13) || ((p / 8 == 22) || ((p / 8 == 23))))))))))
+begins_wide p = (p / 16 == 3) || ((p / 16 == 4) || ((p / 16 == 5) ||
+    ((p / 16 == 6) || ((p / 16 == 7) || ((p / 16 == 14) || ((p / 16 == 12) || ((p / 16 == 13) || ((p / 8 == 22) || ((p / 8 == 23))))))))))
 
 abbrev begins_registers : ℕ → Bool
-begins_registers p = (p / 4 == 1) || ((p / 4 == 2) || ((p / 4 == 3) || ((p / 4 == 5) || ((p / 4 == 6) || ((p / 4 == 7) || ((p / 4 == 8) || ((p / 4 == 9) || ((p / 4 == 10) || ((p / 4 == 11) || ((p / 4 == 39) || ((p / 4 == 4))))))))))))
+begins_registers p = (p / 4 == 1) || ((p / 4 == 2) || ((p / 4 == 3) ||
+    ((p / 4 == 5) || ((p / 4 == 6) || ((p / 4 == 7) || ((p / 4 == 8) || ((p / 4 == 9) || ((p / 4 == 10) || ((p / 4 == 11) || ((p / 4 == 39) || ((p / 4 == 4))))))))))))
 
 wide_fit_all : (w : ℕ) → begins_wide (w / 256) ≡ true → is_one_word w (one_word_form w) ≡ true
 unfolding is_one_word first_word fields_in_range second_word
@@ -150,4 +150,5 @@ abbrev pub begins_own : ℕ → Bool
 begins_own p = (p / 64 == 2) && (p / 16 % 2 == 0) || (begins_wide p || begins_registers p)
 
 pub own_fits : (w : ℕ) → begins_own (w / 256) ≡ true → is_one_word w (one_word_form w) ≡ true
-own_fits w = choose ((w / 256 / 64 == 2) && (w / 256 / 16 % 2 == 0)) (begins_wide (w / 256) || begins_registers (w / 256)) (pages_apart w) (choose (begins_wide (w / 256)) (begins_registers (w / 256)) (wide_fit_all w) (registers_fit_all w))
+own_fits w = choose ((w / 256 / 64 == 2) && (w / 256 / 16 % 2 == 0)) (begins_wide (w / 256) || begins_registers (w / 256)) (pages_apart w)
+    (choose (begins_wide (w / 256)) (begins_registers (w / 256)) (wide_fit_all w) (registers_fit_all w))

@@ -10,7 +10,9 @@ use Rattle.avr_isa.specs.UndefinedPairs.{is_undefined}
 use Rattle.avr_isa.specs.Encoding.{first_word, second_word, IsRow}
 use Rattle.decode_laws.proofs.Own.{begins_own, is_one_word, own_fits}
 use Rattle.decode_laws.proofs.Tables.{below, below-at}
-use Rattle.avr_decode.specs.Decoding.{product_form, move_or_product_form, form_0000, form_0001, form_0010, displaced_form, load_form, store_form, plain_form, flag_or_plain_form, one_register_form, register_or_pair_form, io_bit_form, transfer_form, form_1001, io_form, register_bit_form, form_1111, one_word_form, destination_of, is_direct, is_long, two_word_form, defined_form, if_defined, the_form}
+use Rattle.avr_decode.specs.Decoding.{product_form, move_or_product_form, form_0000, form_0001, form_0010, displaced_form, load_form, store_form, plain_form, flag_or_plain_form, one_register_form}
+use Rattle.avr_decode.specs.Decoding.{register_or_pair_form, io_bit_form, transfer_form, form_1001, io_form, register_bit_form, form_1111, one_word_form, destination_of, is_direct, is_long}
+use Rattle.avr_decode.specs.Decoding.{two_word_form, defined_form, if_defined, the_form}
 
 -- the words that begin with one byte, unless the byte tells the instruction
 abbrev page : ℕ → Bool
@@ -78,7 +80,8 @@ two_words_are_sound : (first second : ℕ) → is_long first ≡ true → second
 unfolding is_long two_word_form
 two_words_are_sound first second long bound = two_words_by_tests (first == 0x940C) (first == 0x940E) (first / 512 % 2 == 0) first second refl refl refl long bound
 
-by_length : (long : Bool) (first second : ℕ) → is_long first ≡ long → first < 65536 → second < 65536 → IsSound first second (if_defined (cond long (Some (two_word_form first second)) (one_word_form first)))
+by_length : (long : Bool) (first second : ℕ) → is_long first ≡ long → first < 65536 → second < 65536
+    → IsSound first second (if_defined (cond long (Some (two_word_form first second)) (one_word_form first)))
 unfolding if_defined
 by_length true first second long first_fits second_fits = two_words_are_sound first second long second_fits
 by_length false first second short first_fits second_fits = one_word_is_sound (one_word_form first) first second (one_word_fits first first_fits)

@@ -42,13 +42,15 @@ abbrev pub itself : (ℕ → Form) → ℕ → Option Form
 itself form a = cond (is_valid (form a)) (Some (form a)) None
 
 -- one operand
-pub by_one : (n : ℕ) (form : ℕ → Form) (w : ℕ) → table n (meaning form w) ≡ table n (itself form) → (a : ℕ) → (IsTrue (fields_in_range (form a)) → a < n) → IsTrue (is_valid (form a)) → the_form (first_word (form a)) w ≡ Some (form a)
+pub by_one : (n : ℕ) (form : ℕ → Form) (w : ℕ) → table n (meaning form w) ≡ table n (itself form) → (a : ℕ) → (IsTrue (fields_in_range (form a)) → a < n) → IsTrue (is_valid (form a))
+    → the_form (first_word (form a)) w ≡ Some (form a)
 by_one n form w same a bound valid =
     let at : meaning form w a ≡ itself form a = table-same n (meaning form w) (itself form) same a (bound (fields_fit (form a) valid)) in
     rw valid at at
 
 -- two operands
-pub by_two : (n m : ℕ) (form : ℕ → ℕ → Form) (w : ℕ) → table n (λ a. table m (meaning (form a) w)) ≡ table n (λ a. table m (itself (form a))) → (a b : ℕ) → (IsTrue (fields_in_range (form a b)) → (a < n) × (b < m)) → IsTrue (is_valid (form a b)) → the_form (first_word (form a b)) w ≡ Some (form a b)
+pub by_two : (n m : ℕ) (form : ℕ → ℕ → Form) (w : ℕ) → table n (λ a. table m (meaning (form a) w)) ≡ table n (λ a. table m (itself (form a))) → (a b : ℕ)
+    → (IsTrue (fields_in_range (form a b)) → (a < n) × (b < m)) → IsTrue (is_valid (form a b)) → the_form (first_word (form a b)) w ≡ Some (form a b)
 by_two n m form w same a b bounds valid =
     let within : (a < n) × (b < m) = bounds (fields_fit (form a b) valid) in
     by_one m (form a) w (table-same n (λ a. table m (meaning (form a) w)) (λ a. table m (itself (form a))) same a within.0) b (λ fits. within.1) valid

@@ -1,5 +1,6 @@
 -- What is written for words of flash is a dump of these words.
-use Rattle.std.proofs.Common.{◌≡◌, ℕ, zero, suc, ◌+◌, ◌-◌, ◌*◌, ◌/◌, ◌%◌, ◌<◌, ◌≤◌, cond, Bool, true, false, ◌&&◌, List, [], ◌∷◌, ◌++◌, length, get_or, take, drop, refl, sym, ap, ◌∙◌, subst, arith, inl, inr}
+use Rattle.std.proofs.Common.{◌≡◌, ℕ, zero, suc, ◌+◌, ◌-◌, ◌*◌, ◌/◌, ◌%◌, ◌<◌, ◌≤◌, cond, Bool, true, false, ◌&&◌, List, [], ◌∷◌, ◌++◌, length, get_or, take, drop}
+use Rattle.std.proofs.Common.{refl, sym, ap, ◌∙◌, arith, inl, inr, ⊎_elim}
 use Rattle.std.specs.Prelude.{nat_le, slice_index, All, ◌==◌, None}
 use Rattle.std.specs.List.{AllByRecursion}
 use Rattle.std.specs.Char.{digit_value}
@@ -13,13 +14,13 @@ use Rattle.hex.proofs.HexLemmas.{length-encode_with}
 use Rattle.flash_words.specs.Pages.{word_count, page_words, page_count, word_at, page_of, set_page}
 use Rattle.flash_words.specs.Memory.{AreWords}
 use Rattle.flash_words.proofs.PageLaws.{page_word, length-page_of, length-set_page, word_in_page, word_out_of_page}
-use Rattle.base_laws.proofs.ManyLaws.{length-many, get_or-many, length-two_each}
-use Rattle.line_reader.specs.Lines.{lines_of}
-use Rattle.line_reader.specs.Faults.{after_lines, first_fault}
-use Rattle.line_reader.specs.Cutting.{Lacks}
-use Rattle.line_reader.specs.Written.{IsPlain}
-use Rattle.line_reader.proofs.FaultLaws.{fault_behind}
-use Rattle.line_reader.proofs.TextLaws.{lines_of-fed}
+use Rattle.base.proofs.ManyLaws.{length-many, get_or-many, length-two_each}
+use Rattle.text_lines.specs.Lines.{lines_of}
+use Rattle.text_lines.specs.Faults.{after_lines, first_fault}
+use Rattle.text_lines.specs.Cutting.{Lacks}
+use Rattle.text_lines.specs.Written.{IsPlain}
+use Rattle.text_lines.proofs.FaultLaws.{fault_behind}
+use Rattle.text_lines.proofs.TextLaws.{lines_of-fed}
 use Rattle.flash_dump.specs.DumpLines.{fault_at, has_page, next_page, page_in, with_line, word_digits, words_in}
 use Rattle.flash_dump.specs.Dumps.{IsDump, erased}
 use Rattle.flash_dump.specs.WrittenDumps.{bytes_of_words, is_erased, line_front, lines_of_pages, page_line, three_digits, written}
@@ -37,10 +38,7 @@ one_below : (test : ℕ → Bool) (n i : ℕ) → all_below test n ≡ true → 
 one_below test zero i all below = absurd (omega arith)
 one_below test (suc n) i all below =
     let parts = and_parts (test n) (all_below test n) all in
-    elim (cases_lt i n) [
-      | inl before ↦ one_below test n i parts.1 before
-      | inr last ↦ let is : i ≡ n = omega arith in rw is parts.0
-    ]
+    ⊎_elim (one_below test n i parts.1) (λ last. let is : i ≡ n = omega arith in rw is parts.0) (cases_lt i n)
 
 -- a hexadecimal digit reads as its number, and is no control character
 abbrev hex_reads : ℕ → Bool
@@ -142,7 +140,7 @@ bytes_high : (words : List ℕ) → AreWords words → IsHigh (encode_upper (byt
 unfolding encode_with
 bytes_high [] fit = tt
 bytes_high (word ∷ words) fit =
-    let fits : word < 65536 = fit 0 in (
+    let fits = fit 0 in (
       hex_high (word / 256 / 16) (omega arith),
       (
         hex_high (word / 256 % 16) (omega arith),
@@ -168,10 +166,7 @@ no_return c high = grind (arith, nat_tests)
 line_plain : (line : List ℕ) → IsHigh line → 0 < length line → IsPlain line
 line_plain line high some =
     let last : (get_or line (length line - 1) 0 == 13) ≡ false = no_return _ (high_at line (length line - 1) high (omega arith)) in
-    record {
-      inside = high_lacks line high;
-      plain = ap (λ b. cond b (take (length line - 1) line) line) last;
-    }
+    record { inside = high_lacks line high; plain = ap (λ b. cond b (take (length line - 1) line) line) last }
 
 -- ---- all lines
 
@@ -192,40 +187,41 @@ erased_word [] k all below = absurd (omega arith)
 erased_word (word ∷ own) zero all below = eqb-true _ _ (and_parts (word == 0xFFFF) (is_erased own) all).0
 erased_word (word ∷ own) (suc k) all below = erased_word own k (and_parts (word == 0xFFFF) (is_erased own) all).1 (omega arith)
 
--- an erased page
-set_erased : (words flash : List ℕ) (page : ℕ) → length words ≡ word_count → page < page_count → IsSetTo words flash page → is_erased (page_of words page) ≡ true → IsSetTo words flash (page + 1)
-set_erased words flash page whole low set all =
-    let long : length (page_of words page) ≡ page_words = length-page_of words page (omega (arith, whole)) in
-    record {
-      whole = set.whole;
-      done = λ a below. elim (cases_lt a (page_words * page)) [
-        | inl before ↦ set.done a before
-        | inr from ↦ (
-            let k = a - page_words * page in
-            let here : page_words * page + k ≡ a = omega arith in
-            let own : word_at words a ≡ 0xFFFF = ap (word_at words) (sym here) ∙ sym (page_word words page k (omega arith)) ∙ erased_word (page_of words page) k all (omega (arith, long)) in
-            set.rest a from (omega arith) ∙ sym own)
-      ];
-      rest = λ a from below. set.rest a (omega arith) below;
-    }
+module _ (words flash : List ℕ) (page : ℕ) (whole : length words ≡ word_count) (low : page < page_count) (set : IsSetTo words flash page) where
+  -- an erased page
+  set_erased : is_erased (page_of words page) ≡ true → IsSetTo words flash (page + 1)
+  set_erased all =
+      let long : length (page_of words page) ≡ page_words = length-page_of words page (omega (arith, whole)) in
+      record {
+        whole = set.whole;
+        done = λ a below. elim (cases_lt a (page_words * page)) [
+          | inl before ↦ set.done a before
+          | inr from ↦ (
+              let k = a - page_words * page in
+              let here : page_words * page + k ≡ a = omega arith in
+              let own : word_at words a ≡ 0xFFFF = ap (word_at words) (sym here) ∙ sym (page_word words page k (omega arith)) ∙ erased_word (page_of words page) k all (omega (arith, long)) in
+              set.rest a from (omega arith) ∙ sym own)
+        ];
+        rest = λ a from below. set.rest a (omega arith) below;
+      }
 
--- a page with a line
-set_line : (words flash : List ℕ) (page : ℕ) → length words ≡ word_count → page < page_count → IsSetTo words flash page → IsSetTo words (set_page flash page (page_of words page)) (page + 1)
-set_line words flash page whole low set =
-    let own = page_of words page in
-    let long : length own ≡ page_words = length-page_of words page (omega (arith, whole)) in
-    let room : page_words * page + page_words ≤ length flash = omega (arith, set.whole) in
-    record {
-      whole = length-set_page flash own page long room ∙ set.whole;
-      done = λ a below. elim (cases_lt a (page_words * page)) [
-        | inl before ↦ word_out_of_page flash own page a long room (inl before) ∙ set.done a before
-        | inr from ↦ (
-            let k = a - page_words * page in
-            let here : page_words * page + k ≡ a = omega arith in
-            word_in_page flash own page a long room from (omega arith) ∙ page_word words page k (omega arith) ∙ ap (word_at words) here)
-      ];
-      rest = λ a from below. word_out_of_page flash own page a long room (inr (omega arith)) ∙ set.rest a (omega arith) below;
-    }
+  -- a page with a line
+  set_line : IsSetTo words (set_page flash page (page_of words page)) (page + 1)
+  set_line =
+      let own = page_of words page in
+      let long : length own ≡ page_words = length-page_of words page (omega (arith, whole)) in
+      let room : page_words * page + page_words ≤ length flash = omega (arith, set.whole) in
+      record {
+        whole = length-set_page flash own page long room ∙ set.whole;
+        done = λ a below. elim (cases_lt a (page_words * page)) [
+          | inl before ↦ word_out_of_page flash own page a long room (inl before) ∙ set.done a before
+          | inr from ↦ (
+              let k = a - page_words * page in
+              let here : page_words * page + k ≡ a = omega arith in
+              word_in_page flash own page a long room from (omega arith) ∙ page_word words page k (omega arith) ∙ ap (word_at words) here)
+        ];
+        rest = λ a from below. word_out_of_page flash own page a long room (inr (omega arith)) ∙ set.rest a (omega arith) below;
+      }
 
 page_fits : (words : List ℕ) (page : ℕ) → AreWords words → length (page_of words page) ≡ page_words → AreWords (page_of words page)
 page_fits words page fit long k = elim (cases_lt k page_words) [
@@ -253,9 +249,9 @@ page_back words flash page least later false whole fit low least_low set test la
     let some = page_some line has in
     let page_is : page_in line ≡ page = number_read page (omega arith) in
     let next_is : next_page least line ≡ page + 1 = ap (λ b. cond b least (page_in line + 1)) some ∙ ap (λ p. p + 1) page_is in
-    let words_is : with_line flash line ≡ set_page flash page own =
-    ap (λ b. cond b flash (set_page flash (page_in line) (words_in line))) some ∙ ap (λ p. set_page flash p (words_in line)) page_is ∙ ap (set_page flash page) (line_words page own long own_fit) in
-    let after : IsSetTo words (with_line flash line) (page + 1) = subst (λ f. IsSetTo words f (page + 1)) (sym words_is) (set_line words flash page whole low set) in
+    let words_is = ap (λ b. cond b flash (set_page flash (page_in line) (words_in line))) some ∙ ap (λ p. set_page flash p (words_in line)) page_is
+    ∙ ap (set_page flash page) (line_words page own long own_fit) in
+    let after : IsSetTo words (with_line flash line) (page + 1) = rw words_is (set_line words flash page whole low set) in
     let back = later_back (with_line flash line) (next_page least line) (omega (arith, next_is)) after in
     record {
       sound = λ number.
@@ -285,7 +281,4 @@ dump_written words whole fit =
     } in
     let back = pages_back words erased 0 512 0 refl whole fit (omega arith) set in
     let lines : lines_of (written words) ≡ lines_of_pages words 0 page_count = lines_of-fed (lines_of_pages words 0 page_count) back.plain in
-    record {
-      sound = ap (first_fault fault_at next_page 1 0) lines ∙ back.sound 1;
-      words_are = sym (ap (after_lines with_line erased) lines ∙ back.words_are);
-    }
+    record { sound = ap (first_fault fault_at next_page 1 0) lines ∙ back.sound 1; words_are = sym (ap (after_lines with_line erased) lines ∙ back.words_are) }

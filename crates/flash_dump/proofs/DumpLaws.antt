@@ -5,15 +5,15 @@ use Rattle.std.proofs.lemmas.Bool.{and_parts, eqb-true}
 use Rattle.std.proofs.lemmas.Bool.Decides.{nat_tests}
 use Rattle.std.proofs.lemmas.Grind.{same_number_lists}
 use Rattle.std.proofs.lemmas.List.FromFn.{length-map-range_with_len}
-use Rattle.base_laws.proofs.ManyLaws.{length-many, get_or-many}
+use Rattle.base.proofs.ManyLaws.{length-many, get_or-many}
 use Rattle.std.specs.Str.Parse.{digits_value}
 use Rattle.flash_words.specs.Pages.{word_count, page_words, word_at, page_of, set_page, blank, many}
 use Rattle.flash_words.specs.Memory.{Memory, erased_flash}
 use Rattle.flash_words.specs.Operations.{programmed_page}
 use Rattle.flash_words.proofs.PageLaws.{page_word, length-page_of, length-set_page, page_other}
-use Rattle.line_reader.specs.Lines.{lines_of}
-use Rattle.line_reader.specs.Faults.{after_lines, first_fault}
-use Rattle.line_reader.proofs.FaultLaws.{fault_behind}
+use Rattle.text_lines.specs.Lines.{lines_of}
+use Rattle.text_lines.specs.Faults.{after_lines, first_fault}
+use Rattle.text_lines.proofs.FaultLaws.{fault_behind}
 use Rattle.flash_dump.specs.declared.dump_line.DumpFault.TheVariants.{Order}
 use Rattle.flash_dump.specs.DumpLines.{fault_at, has_page, next_page, page_in, with_line, word_digits, words_in}
 use Rattle.flash_dump.specs.Dumps.{IsOpen, IsReadTo, IsTaken, erased}

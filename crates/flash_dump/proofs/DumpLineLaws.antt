@@ -1,13 +1,13 @@
 -- The words that a line of a dump tells.
-use Rattle.std.proofs.Common.{◌≡◌, ℕ, zero, suc, ◌+◌, ◌*◌, ◌<◌, ◌≤◌, ◌^◌, ◌==◌, Bool, true, false, ◌&&◌, List, [], ◌∷◌, length, get_or, take, drop, arith, refl, ap, subst, sym, ◌∙◌, drop-drop, length-drop}
+use Rattle.std.proofs.Common.{◌≡◌, ℕ, zero, suc, ◌+◌, ◌*◌, ◌<◌, ◌≤◌, ◌^◌, ◌==◌, Bool, true, false, ◌&&◌, List, [], ◌∷◌, length, get_or, take, drop, arith, refl, ap, sym, ◌∙◌, drop-drop, length-drop}
 use Rattle.std.specs.Prelude.{codes, nat_eq, slice_index}
 use Rattle.std.specs.List.{starts_with}
 use Rattle.std.proofs.lemmas.Bool.Decides.{nat_tests}
-use Rattle.line_reader.proofs.DigitTests.{all_digits, some_other}
+use Rattle.text_lines.proofs.DigitTests.{all_digits, some_other}
 use Rattle.std.proofs.Math.Nat.{pow-le-pow_right}
 use Rattle.std.proofs.lemmas.Grind.{same_number_lists}
 use Rattle.std.proofs.lemmas.List.FromFn.{length-map-range_with_len, get_or-map-range_with_len}
-use Rattle.base_laws.proofs.Pieces.{length-part}
+use Rattle.base.proofs.Pieces.{length-part}
 use Rattle.std.proofs.lemmas.Int.Digits.{digits_value-lt}
 use Rattle.std.specs.Str.Parse.{digits_value, AllDigits}
 use Rattle.flash_dump.specs.DumpLines.{has_page, number_digits, word_digits, words_in}
@@ -48,15 +48,15 @@ digits_of_fours zero (b ∷ text) few each = absurd (omega arith)
 digits_of_fours (suc count) text few each =
     digits_joined 4 text (each 0 (omega arith)) (digits_of_fours count (drop 4 text) (omega (arith, length-drop 4 text)) (λ k below.
     let next : 4 + 4 * k ≡ 4 * (k + 1) = omega arith in
-    subst (λ t. AllDigits 16 (take 4 t)) (sym (drop-drop (4 * k) 4 text ∙ ap (λ n. drop n text) next)) (each (k + 1) (omega arith))))
+    rw (drop-drop (4 * k) 4 text ∙ ap (λ n. drop n text) next) (each (k + 1) (omega arith))))
 
 pub all_words : (line : List ℕ) → length line ≡ 521 → ((k : ℕ) → k < 128 → AllDigits 16 (word_digits line k)) → AllDigits 16 (drop 9 line)
 all_words line size each =
     digits_of_fours 128 (drop 9 line) (omega (arith, length-drop 9 line)) (λ k below.
-    subst (λ t. AllDigits 16 (take 4 t)) (sym (drop-drop (4 * k) 9 line)) (each k below))
+    rw (drop-drop (4 * k) 9 line) (each k below))
 
 pub word_of_all : (line : List ℕ) (k : ℕ) → AllDigits 16 (drop 9 line) → AllDigits 16 (word_digits line k)
-word_of_all line k all = subst (λ t. AllDigits 16 (take 4 t)) (drop-drop (4 * k) 9 line) (digits_take 4 (drop (4 * k) (drop 9 line)) (digits_drop (4 * k) (drop 9 line) all))
+word_of_all line k all = rw (drop-drop (4 * k) 9 line) at (digits_take 4 (drop (4 * k) (drop 9 line)) (digits_drop (4 * k) (drop 9 line) all))
 
 -- a line with a page
 pub told_page : (line : List ℕ) → length line ≡ 521 → starts_with nat_eq line (codes "page ") ≡ true → slice_index line 8 ≡ 32

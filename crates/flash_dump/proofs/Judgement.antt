@@ -1,7 +1,7 @@
 -- A text is a dump of one flash, or has one first fault, and not both.
 use Rattle.std.proofs.Common.{◌≡◌, ℕ, List, sym, ◌∙◌}
 use Rattle.std.specs.Prelude.{Some}
-use Rattle.line_reader.proofs.FaultLaws.{same_fault, not_both}
+use Rattle.text_lines.proofs.FaultLaws.{same_fault, not_both}
 use Rattle.flash_dump.specs.declared.dump_line.DumpFault.{DumpFault}
 use Rattle.flash_dump.specs.Dumps.{IsDump, dump_fault}
 

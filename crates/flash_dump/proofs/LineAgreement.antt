@@ -8,8 +8,8 @@ use Rattle.std.proofs.lemmas.Bool.{and_parts, eqb-true}
 use Rattle.std.proofs.lemmas.Bool.Decides.{Decides-eqb}
 use Rattle.std.proofs.lemmas.List.{drop_more, drop_at, get_or_at, take_at}
 use Rattle.std.proofs.lemmas.Slice.Eq.{starts_is}
-use Rattle.line_reader.proofs.DigitTests.{digits_all}
-use Rattle.base_laws.proofs.Pieces.{length-part}
+use Rattle.text_lines.proofs.DigitTests.{digits_all}
+use Rattle.base.proofs.Pieces.{length-part}
 use Rattle.flash_dump.specs.DumpLines.{has_page, number_digits}
 use Rattle.flash_dump.specs.GrammarLaw.{HasPage}
 use Rattle.flash_dump.proofs.DumpLineLaws.{told_page}

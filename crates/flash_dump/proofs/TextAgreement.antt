@@ -4,9 +4,9 @@ use Rattle.std.specs.Prelude.{All, AllPairs, nat_le, nat_lt, Some, None}
 use Rattle.std.proofs.lemmas.Bool.{false_from_ne_true, not-false}
 use Rattle.std.proofs.lemmas.Bool.Decides.{nat_tests}
 use Rattle.std.proofs.lemmas.List.Elements.{All-cons, All-head, All-nil, All-tail}
-use Rattle.line_reader.specs.Lines.{lines_of}
-use Rattle.line_reader.specs.Faults.{after_lines, first_fault}
-use Rattle.line_reader.proofs.FaultLaws.{fault_behind, fault_here, first_at, found_is, none_parts, not_found}
+use Rattle.text_lines.specs.Lines.{lines_of}
+use Rattle.text_lines.specs.Faults.{after_lines, first_fault}
+use Rattle.text_lines.proofs.FaultLaws.{fault_behind, fault_here, first_at, found_is, none_parts, not_found}
 use Rattle.flash_dump.specs.declared.dump_line.DumpFault.{DumpFault}
 use Rattle.flash_dump.specs.declared.dump_line.DumpFault.TheVariants.{Form, Order, Range}
 use Rattle.flash_dump.specs.DumpLines.{fault_at, has_page, next_page, page_in}

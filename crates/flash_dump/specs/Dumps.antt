@@ -2,8 +2,8 @@
 use Rattle.std.specs.Prelude.{◌≡◌, ℕ, ◌+◌, ◌<◌, ◌≤◌, List, [], length, Option, None}
 use Rattle.flash_words.specs.Pages.{word_count, page_count, page_of, blank, many}
 use Rattle.flash_words.specs.Memory.{Memory}
-use Rattle.line_reader.specs.Lines.{lines_of}
-use Rattle.line_reader.specs.Faults.{after_lines, first_fault}
+use Rattle.text_lines.specs.Lines.{lines_of}
+use Rattle.text_lines.specs.Faults.{after_lines, first_fault}
 use Rattle.flash_dump.specs.declared.dump_line.DumpFault.{DumpFault}
 use Rattle.flash_dump.specs.DumpLines.{fault_at, next_page, with_line}
 

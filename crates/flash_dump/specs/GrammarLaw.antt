@@ -3,8 +3,8 @@
 use Rattle.std.specs.Prelude.{◌≡◌, ◌≢◌, ◌⊎◌, ◌↔◌, ℕ, ◌+◌, ◌<◌, ◌≤◌, ◌==◌, if◌then◌else◌, List, [], ◌∷◌, ◌++◌, length, codes, All, AllPairs, Some, None}
 use Rattle.std.specs.Str.Parse.{AllDigits}
 use Rattle.flash_words.specs.Pages.{page_count}
-use Rattle.line_reader.specs.Lines.{lines_of}
-use Rattle.line_reader.specs.Faults.{after_lines}
+use Rattle.text_lines.specs.Lines.{lines_of}
+use Rattle.text_lines.specs.Faults.{after_lines}
 use Rattle.flash_dump.specs.declared.dump_line.DumpFault.{DumpFault}
 use Rattle.flash_dump.specs.declared.dump_line.DumpFault.TheVariants.{Form, Order, Range}
 use Rattle.flash_dump.specs.DumpLines.{next_page, page_in}

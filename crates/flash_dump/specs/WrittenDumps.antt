@@ -3,7 +3,7 @@ use Rattle.std.specs.Prelude.{ℕ, ◌+◌, ◌/◌, ◌%◌, ◌==◌, Bool, if
 use Rattle.std.specs.List.{list_all, range_with_len}
 use Rattle.hex.specs.Hex.{encode_upper}
 use Rattle.flash_words.specs.Pages.{page_count, page_of}
-use Rattle.line_reader.specs.Written.{fed}
+use Rattle.text_lines.specs.Written.{fed}
 
 -- a number below 1000 in three decimal digits
 abbrev pub three_digits : ℕ → List ℕ

@@ -8,20 +8,17 @@ ghost use Rattle.flash_dump.specs.Dumps.{IsDump, IsOpen, IsTaken, erased as eras
 ghost use Rattle.flash_dump.specs.DumpAnswers.{IsRefusal};
 
 use crate::dump_line::{DumpFault, page_line_in};
+use base::NoMemory;
 use flash_model::{Flash, PAGES};
-use line_reader::first_line;
-use no_memory::NoMemory;
 use std::alloc::Global;
-use thiserror::Error;
+use text_lines::first_line;
 
 /// Why a text was not read.
-#[derive(Clone, Copy, Debug, Error)]
+#[derive(Clone, Copy, Debug)]
 pub enum DumpError {
     /// The first faulty line, counted from 1, and the first of its faults.
-    #[error("bad dump line {line} {fault}")]
     Bad { line: u32, fault: DumpFault },
     /// Memory was wanted and not found.
-    #[error("no memory")]
     NoMemory,
 }
 

@@ -5,7 +5,7 @@ ghost use Rattle.std.specs.List.{starts_with};
 ghost use Rattle.std.specs.Str.Parse.{digits_value, AllDigits};
 ghost use Rattle.flash_dump.specs.DumpLines.{has_page, IsReadLine, word_digits, words_in};
 
-use line_reader::value_of;
+use text_lines::value_of;
 use thiserror::Error;
 
 /// A fault of a line. A line's faults are tried in this order, and the first is reported.

@@ -3,14 +3,15 @@
 ghost use Rattle.std.specs.Prelude.{◌≡◌, ◌≤◌, ◌<◌, ◌++◌, length, flat_map, IfOk, OnOk};
 ghost use Rattle.flash_words.specs.Memory.{IsWhole};
 ghost use Rattle.flash_words.specs.Pages.{page_count};
-ghost use Rattle.line_reader.specs.Written.{fed};
+ghost use Rattle.text_lines.specs.Written.{fed};
 ghost use Rattle.flash_dump.specs.Dumps.{IsDump};
 ghost use Rattle.flash_dump.specs.WrittenDumps.{bytes_of_words, is_erased as is_erased_test, line_front, lines_of_page, page_line, written};
 
 use arrayvec::ArrayVec;
+use base::NoMemory;
 use flash_model::{BLANK, Flash, PAGES};
-use no_memory::NoMemory;
 use std::alloc::{AllocError, Global};
+use text_lines::push_coded;
 
 /// The bytes of a page.
 const PAGE_BYTES: usize = 256;
@@ -57,11 +58,7 @@ fn push_line(alloc: Global, text: &mut Vec<u8>, page: u16, words: &[u16]) -> Res
     ensures line { OnOk result (text.new.items ≡ text.old.items ++ fed (page_line page words.now)) }
 {
     let bytes = bytes_of_words(words);
-    let digits = hex::encode_upper(alloc, bytes.as_slice())?;
-    text.extend_from_slice(&line_front(page))?;
-    text.extend_from_slice(digits.as_bytes())?;
-    text.push(b'\n')?;
-    Ok(())
+    push_coded(alloc, text, &line_front(page), bytes.as_slice())
 }
 
 /// What stands in the line before the words.

@@ -1,2 +1,3 @@
 mod Renewing
 pub mod ImageLaws
+pub mod UndecodedLaws

@@ -3,15 +3,16 @@ use Rattle.std.proofs.Common.{◌≡◌, ℕ, ◌+◌, ◌-◌, ◌*◌, ◌%◌
 use Rattle.std.specs.Prelude.{◌≢◌, replicate, slice_set, slice_index, slice_index_or}
 use Rattle.std.proofs.lemmas.List.{places, length-take-le, get_or-take, length-set, get_or-set_same, get_or-set_other, length-replicate, get_or-replicate, take-replicate}
 use Rattle.std.proofs.lemmas.Bool.{cases_lt, cases_eq}
-use Rattle.avr_ops.specs.declared.micro_op.MicroOp.{MicroOp}
-use Rattle.avr_ops.specs.declared.micro_op.MicroOp.TheVariants.{Undecoded}
-use Rattle.avr_ops.specs.MicroOps.{CanStandFor}
-use Rattle.avr_ops.proofs.UndecodedLaws.{stands_for_any}
+use Rattle.flash_model.specs.declared.micro_ops.MicroOp.{MicroOp}
+use Rattle.flash_model.specs.declared.micro_ops.MicroOp.TheVariants.{Undecoded}
+use Rattle.flash_model.specs.MicroOps.{CanStandFor}
+use Rattle.flash_model.proofs.UndecodedLaws.{stands_for_any}
 use Rattle.flash_model.specs.declared.decoded.Decoded.{Decoded}
 use Rattle.flash_model.specs.declared.decode_cache.DecodeCache.{DecodeCache}
 use Rattle.flash_words.specs.Pages.{word_count, page_count, page_words, word_at, page_of, set_page}
 use Rattle.flash_model.specs.Code.{behind, decoded_of, decoded_at}
-use Rattle.flash_model.specs.DecodeCache.{HasDecoded, HasMicroOp, StandsAt, IsOutside, IsCache, IsCacheBeside, AreDecoded, AreDecodedOutside, AreDecodedBeside, AreMicroOps, AreMicroOpsOutside, AreMicroOpsBeside, StandForPage}
+use Rattle.flash_model.specs.DecodeCache.{HasDecoded, HasMicroOp, StandsAt, IsOutside, IsCache, IsCacheBeside, AreDecoded, AreDecodedOutside, AreDecodedBeside, AreMicroOps, AreMicroOpsOutside}
+use Rattle.flash_model.specs.DecodeCache.{AreMicroOpsBeside, StandForPage}
 use Rattle.flash_words.proofs.PageLaws.{word_in_page, word_out_of_page, page_word}
 
 -- What is decoded at the first addresses. ---------------------------------------------------------
@@ -24,17 +25,15 @@ decoded_else : (words : List ℕ) (old : List Decoded) (a b : ℕ) → b ≢ a �
 decoded_else words old a b apart has d = get_or-set_other old a b (decoded_at words a) d apart ∙ has d
 
 -- the next address of a range
-pub decoded_step : (words : List ℕ) (old new : List Decoded) (a to : ℕ) → a < length old → new ≡ slice_set old a (decoded_at words a) → AreDecodedOutside words old a to → AreDecodedOutside words new (a + 1) to
+pub decoded_step : (words : List ℕ) (old new : List Decoded) (a to : ℕ) → a < length old → new ≡ slice_set old a (decoded_at words a) → AreDecodedOutside words old a to
+    → AreDecodedOutside words new (a + 1) to
 decoded_step words old new a to inside is h =
     let size = length-set old a (decoded_at words a) in
-    subst (λ decoded. AreDecodedOutside words decoded (a + 1) to) (sym is) (record {
+    rw is (record {
       sized = omega (arith, size, h.sized);
       each = λ b within out. elim (cases_eq b a) [
-        | inl same ↦ subst (HasDecoded words (slice_set old a (decoded_at words a))) (sym same) (decoded_here words old a inside)
-        | inr apart ↦ decoded_else words old a b apart (h.each b (omega (arith, size, within)) (elim out [
-          | inl below ↦ inl (omega arith)
-          | inr above ↦ inr above
-        ]))
+        | inl same ↦ rw same (decoded_here words old a inside)
+        | inr apart ↦ decoded_else words old a b apart (h.each b (omega (arith, size, within)) (elim out [ inl below ↦ inl (omega arith) | inr above ↦ inr above ]))
       ];
     })
 
@@ -42,24 +41,16 @@ decoded_step words old new a to inside is h =
 pub decoded_all : (words : List ℕ) (decoded : List Decoded) (from to : ℕ) → to ≤ from → AreDecodedOutside words decoded from to → AreDecoded words decoded
 decoded_all words decoded from to done h = record {
   sized = h.sized;
-  each = λ a within. h.each a within (elim (cases_lt a from) [
-    | inl below ↦ inl below
-    | inr above ↦ inr (omega arith)
-  ]);
+  each = λ a within. h.each a within (elim (cases_lt a from) [ inl below ↦ inl below | inr above ↦ inr (omega arith) ]);
 }
 
 -- a range that has all of them
 pub decoded_none : (words : List ℕ) (decoded : List Decoded) (count : ℕ) → length decoded ≡ count → count < word_count → AreDecodedOutside words decoded 0 count
-decoded_none words decoded count size few = record {
-  sized = omega arith;
-  each = λ a within out. absurd (elim out [
-    | inl below ↦ omega arith
-    | inr above ↦ omega arith
-  ]);
-}
+decoded_none words decoded count size few = record { sized = omega arith; each = λ a within out. absurd (omega arith) }
 
 -- the addresses that read a range of words, from the one before on
-pub decoded_before : (words : List ℕ) (decoded : List Decoded) (from to first last : ℕ) → AreDecodedBeside words decoded from to → ((a : ℕ) → a < length decoded → IsOutside a first last → (a + 1 < from) ⊎ (to ≤ a)) → AreDecodedOutside words decoded first last
+pub decoded_before : (words : List ℕ) (decoded : List Decoded) (from to first last : ℕ) → AreDecodedBeside words decoded from to
+    → ((a : ℕ) → a < length decoded → IsOutside a first last → (a + 1 < from) ⊎ (to ≤ a)) → AreDecodedOutside words decoded first last
 decoded_before words decoded from to first last h out = record {
   sized = h.sized;
   each = λ b within outside. elim (out b within outside) [
@@ -76,116 +67,102 @@ decoded_above words decoded from to above h = record { sized = h.sized; each = �
 
 -- an address whose micro-operation may stand there, and each other, which stays
 micro_op_here : (words : List ℕ) (old : List MicroOp) (a : ℕ) (op : MicroOp) → a < length old → StandsAt words a op → HasMicroOp words (slice_set old a op) a
-micro_op_here words old a op inside stands d = subst (StandsAt words a) (sym (get_or-set_same old a op d inside)) stands
+micro_op_here words old a op inside stands d = rw (get_or-set_same old a op d inside) stands
 
 micro_op_else : (words : List ℕ) (old : List MicroOp) (a b : ℕ) (op : MicroOp) → b ≢ a → HasMicroOp words old b → HasMicroOp words (slice_set old a op) b
-micro_op_else words old a b op apart has d = subst (StandsAt words b) (sym (get_or-set_other old a b op d apart)) (has d)
+micro_op_else words old a b op apart has d = rw (get_or-set_other old a b op d apart) (has d)
 
 -- one that is kept
 pub micro_op_set : (words : List ℕ) (old : List MicroOp) (a : ℕ) (op : MicroOp) → a < word_count → StandsAt words a op → AreMicroOps words old → AreMicroOps words (slice_set old a op)
 micro_op_set words old a op few stands h = record {
   sized = length-set old a op ∙ h.sized;
   each = λ b within. elim (cases_eq b a) [
-    | inl same ↦ subst (HasMicroOp words (slice_set old a op)) (sym same) (micro_op_here words old a op (omega (arith, h.sized)) stands)
+    | inl same ↦ rw same (micro_op_here words old a op (omega (arith, h.sized)) stands)
     | inr apart ↦ micro_op_else words old a b op apart (h.each b within)
   ];
 }
 
 -- none anywhere
-pub no_micro_op : (words : List ℕ) (micro_ops : List MicroOp) → length micro_ops ≡ word_count → ((a : ℕ) (op : MicroOp) → a < word_count → slice_index_or micro_ops a op ≡ Undecoded) → AreMicroOps words micro_ops
-no_micro_op words micro_ops sized none = record { sized = sized; each = λ a within op. subst (StandsAt words a) (sym (none a op within)) (stands_for_any _ _) }
+pub no_micro_op : (words : List ℕ) (micro_ops : List MicroOp) → length micro_ops ≡ word_count → ((a : ℕ) (op : MicroOp) → a < word_count → slice_index_or micro_ops a op ≡ Undecoded)
+    → AreMicroOps words micro_ops
+no_micro_op words micro_ops sized none = record { sized = sized; each = λ a within op. rw (none a op within) (stands_for_any _ _) }
 
 -- a list with n of its items from place i on replaced by others
-put_in : (i n k : ℕ) (m new : List MicroOp) (d : MicroOp) → length new ≡ n → i + n ≤ length m → i ≤ k → k < i + n → get_or (take i m ++ new ++ drop (i + n) m) k d ≡ get_or new (k - i) d
-put_in i n k m new d fits inside from to = grind (arith, places)
+module _ (i n : ℕ) (m new : List MicroOp) (fits : length new ≡ n) (inside : i + n ≤ length m) where
+  put_in : (k : ℕ) (d : MicroOp) → i ≤ k → k < i + n → get_or (take i m ++ new ++ drop (i + n) m) k d ≡ get_or new (k - i) d
+  put_in k d from to = grind (arith, places)
 
-put_below : (i n k : ℕ) (m new : List MicroOp) (d : MicroOp) → length new ≡ n → i + n ≤ length m → k < i → get_or (take i m ++ new ++ drop (i + n) m) k d ≡ get_or m k d
-put_below i n k m new d fits inside below = grind (arith, places)
+  put_below : (k : ℕ) (d : MicroOp) → k < i → get_or (take i m ++ new ++ drop (i + n) m) k d ≡ get_or m k d
+  put_below k d below = grind (arith, places)
 
-put_above : (i n k : ℕ) (m new : List MicroOp) (d : MicroOp) → length new ≡ n → i + n ≤ length m → i + n ≤ k → get_or (take i m ++ new ++ drop (i + n) m) k d ≡ get_or m k d
-put_above i n k m new d fits inside above = grind (arith, places)
+  put_above : (k : ℕ) (d : MicroOp) → i + n ≤ k → get_or (take i m ++ new ++ drop (i + n) m) k d ≡ get_or m k d
+  put_above k d above = grind (arith, places)
 
-length-put : (i n : ℕ) (m new : List MicroOp) → length new ≡ n → i + n ≤ length m → length (take i m ++ new ++ drop (i + n) m) ≡ length m
-length-put i n m new fits inside = search (rules, places)
+  length-put : length (take i m ++ new ++ drop (i + n) m) ≡ length m
+  length-put = search (rules, places)
 
--- a range that is forgotten
-forgotten_part : (words : List ℕ) (old : List MicroOp) (from n : ℕ) → from + n ≤ word_count → AreMicroOpsOutside words old from (from + n) → AreMicroOps words (take from old ++ replicate n Undecoded ++ drop (from + n) old)
-forgotten_part words old from n end h =
-    let none = replicate n Undecoded in
-    let fits : length none ≡ n = length-replicate n Undecoded in
-    let inside : from + n ≤ length old = omega (arith, h.sized) in
-    let Stands : ℕ → MicroOp → Type 0 = λ a op. StandsAt words a op in
-    record {
-      sized = length-put from n old none fits inside ∙ h.sized;
-      each = λ a within op. elim (cases_lt a from) [
-        | inl below ↦ subst (Stands a) (sym (put_below from n a old none op fits inside below)) (h.each a within (inl below) op)
-        | inr start ↦ elim (cases_lt a (from + n)) [
-          | inl before ↦ subst (Stands a) (sym (put_in from n a old none op fits inside start before ∙ get_or-replicate n (a - from) Undecoded op (omega arith))) (stands_for_any _ _)
-          | inr above ↦ subst (Stands a) (sym (put_above from n a old none op fits inside above)) (h.each a within (inr above) op)
-        ]
-      ];
-    }
-
--- a range whose micro-operations are told
-pub told_range : (words : List ℕ) (old new : List MicroOp) (from : ℕ) → from + length new ≤ word_count → ((i : ℕ) (op : MicroOp) → i < length new → StandsAt words (from + i) (slice_index_or new i op)) → AreMicroOps words old → AreMicroOps words (take from old ++ new ++ drop (from + length new) old)
-told_range words old new from end stand h =
+-- a range that gets other micro-operations, which may stand there
+put_range : (words : List ℕ) (old new : List MicroOp) (from : ℕ) → from + length new ≤ word_count → ((i : ℕ) (op : MicroOp) → i < length new → StandsAt words (from + i) (slice_index_or new i op))
+    → AreMicroOpsOutside words old from (from + length new) → AreMicroOps words (take from old ++ new ++ drop (from + length new) old)
+put_range words old new from end stand h =
     let n = length new in
     let inside : from + n ≤ length old = omega (arith, h.sized) in
-    let Stands : ℕ → MicroOp → Type 0 = λ a op. StandsAt words a op in
     record {
       sized = length-put from n old new refl inside ∙ h.sized;
       each = λ a within op. elim (cases_lt a from) [
-        | inl below ↦ subst (Stands a) (sym (put_below from n a old new op refl inside below)) (h.each a within op)
+        | inl below ↦ rw (put_below from n old new refl inside a op below) (h.each a within (inl below) op)
         | inr start ↦ elim (cases_lt a (from + n)) [
-          | inl before ↦ (
+          | inl before ↦
               let place : from + (a - from) ≡ a = omega arith in
-              let here = subst (λ (b : ℕ). StandsAt words b (slice_index_or new (a - from) op)) place (stand (a - from) op (omega arith)) in
-              subst (Stands a) (sym (put_in from n a old new op refl inside start before)) here)
-          | inr above ↦ subst (Stands a) (sym (put_above from n a old new op refl inside above)) (h.each a within op)
+              rw (put_in from n old new refl inside a op start before) (subst (λ (b : ℕ). StandsAt words b (slice_index_or new (a - from) op)) place (stand (a - from) op (omega arith)))
+          | inr above ↦ rw (put_above from n old new refl inside a op above) (h.each a within (inr above) op)
         ]
       ];
     }
 
 -- those of a page's words but the last
-pub told_words : (words : List ℕ) (old told new : List MicroOp) (first : ℕ) → length told ≡ page_words → first + page_words ≤ word_count → ((i : ℕ) (op : MicroOp) → i + 1 < page_words → StandsAt words (first + i) (slice_index_or told i op)) → new ≡ take first old ++ take 127 told ++ drop (first + length (take 127 told)) old → AreMicroOps words old → AreMicroOps words new
+pub told_words : (words : List ℕ) (old told new : List MicroOp) (first : ℕ) → length told ≡ page_words → first + page_words ≤ word_count
+    → ((i : ℕ) (op : MicroOp) → i + 1 < page_words → StandsAt words (first + i) (slice_index_or told i op))
+    → new ≡ take first old ++ take 127 told ++ drop (first + length (take 127 told)) old → AreMicroOps words old → AreMicroOps words new
 told_words words old told new first size end stand is h =
     let count : length (take 127 told) ≡ 127 = length-take-le 127 told (omega (arith, size)) in
-    subst (AreMicroOps words) (sym is) (told_range words old (take 127 told) first (omega (arith, count)) (λ i op near. subst (λ (o : MicroOp). StandsAt words (first + i) o) (sym (get_or-take 127 told i op (omega arith))) (stand i op (omega arith))) h)
+    rw is (put_range words old (take 127 told) first (omega (arith, count)) (λ i op near. rw (get_or-take 127 told i op (omega arith)) (stand i op (omega arith)))
+    (record { sized = h.sized; each = λ a within out. h.each a within }))
 
 -- a range in whose place as many of none are put
-pub none_put : (items none : List MicroOp) (from to : ℕ) → from ≤ to → to ≤ from + page_words → none ≡ take (to - from) (replicate page_words Undecoded) → take from items ++ none ++ drop (from + length none) items ≡ take from items ++ replicate (to - from) Undecoded ++ drop to items
+pub none_put : (items none : List MicroOp) (from to : ℕ) → from ≤ to → to ≤ from + page_words → none ≡ take (to - from) (replicate page_words Undecoded)
+    → take from items ++ none ++ drop (from + length none) items ≡ take from items ++ replicate (to - from) Undecoded ++ drop to items
 none_put items none from to order few is =
     let same : none ≡ replicate (to - from) Undecoded = is ∙ take-replicate (to - from) page_words Undecoded (omega arith) in
     let count : length none ≡ to - from = ap length same ∙ length-replicate (to - from) Undecoded in
     let behind : from + length none ≡ to = omega arith in
     ap₂ (λ n k. take from items ++ n ++ drop k items) same behind
 
-pub forgotten_range : (words : List ℕ) (old new : List MicroOp) (from to : ℕ) → from ≤ to → to ≤ word_count → new ≡ take from old ++ replicate (to - from) Undecoded ++ drop to old → AreMicroOpsOutside words old from to → AreMicroOps words new
+pub forgotten_range : (words : List ℕ) (old new : List MicroOp) (from to : ℕ) → from ≤ to → to ≤ word_count → new ≡ take from old ++ replicate (to - from) Undecoded ++ drop to old
+    → AreMicroOpsOutside words old from to → AreMicroOps words new
 forgotten_range words old new from to order end is h =
-    let there : from + (to - from) ≡ to = omega arith in
-    let all = subst (λ (b : ℕ). AreMicroOpsOutside words old from b) (sym there) h in
-    let parts : take from old ++ replicate (to - from) Undecoded ++ drop (from + (to - from)) old ≡ new = ap (λ b. take from old ++ replicate (to - from) Undecoded ++ drop b old) there ∙ sym is in
-    subst (AreMicroOps words) parts (forgotten_part words old from (to - from) (omega arith) all)
+    let none = replicate (to - from) Undecoded in
+    let count = length-replicate (to - from) Undecoded in
+    let there : from + length none ≡ to = omega (arith, count) in
+    let all = subst (AreMicroOpsOutside words old from) (sym there) h in
+    let forgotten = put_range words old none from (omega (arith, there)) (λ i op below. rw (get_or-replicate (to - from) i Undecoded op (omega (arith, count))) (stands_for_any _ _)) all in
+    rw is (subst (λ b. AreMicroOps words (take from old ++ none ++ drop b old)) there forgotten)
 
 -- a word address outside of a range whose first word isn't the one behind it
-not_behind : (a before from to : ℕ) → a < word_count → from < word_count → before ≡ (from + 65536 - 1) % 65536 → a ≢ before → IsOutside a from to → to ≤ word_count → IsOutside (behind a) from to
+not_behind : (a before from to : ℕ) → a < word_count → from < word_count → before ≡ (from + 65536 - 1) % 65536 → a ≢ before → IsOutside a from to → to ≤ word_count
+    → IsOutside (behind a) from to
 not_behind a before from to within start is apart out end = elim (cases_lt (behind a) from) [
   | inl below ↦ inl below
-  | inr above ↦ elim (cases_lt (behind a) to) [
-    | inl inside ↦ absurd (apart (elim out [
-      | inl lower ↦ omega arith
-      | inr higher ↦ omega arith
-    ]))
-    | inr higher ↦ inr higher
-  ]
+  | inr above ↦ elim (cases_lt (behind a) to) [ inl inside ↦ absurd (apart (omega arith)) | inr higher ↦ inr higher ]
 ]
 
 -- the address before a range, whose second word is the range's first
-pub forgotten_before : (words : List ℕ) (old new : List MicroOp) (from to before : ℕ) → AreMicroOpsBeside words old from to → new ≡ slice_set old before Undecoded → from < word_count → to ≤ word_count → before ≡ (from + 65536 - 1) % 65536 → AreMicroOpsOutside words new from to
-forgotten_before words old new from to before h is start end place = subst (λ micro_ops. AreMicroOpsOutside words micro_ops from to) (sym is) (record {
+pub forgotten_before : (words : List ℕ) (old new : List MicroOp) (from to before : ℕ) → AreMicroOpsBeside words old from to → new ≡ slice_set old before Undecoded → from < word_count → to ≤ word_count
+    → before ≡ (from + 65536 - 1) % 65536 → AreMicroOpsOutside words new from to
+forgotten_before words old new from to before h is start end place = rw is (record {
   sized = length-set old before Undecoded ∙ h.sized;
   each = λ a within out. elim (cases_eq a before) [
-    | inl same ↦ subst (HasMicroOp words (slice_set old before Undecoded)) (sym same) (micro_op_here words old before Undecoded (omega (arith, h.sized)) (stands_for_any _ _))
+    | inl same ↦ rw same (micro_op_here words old before Undecoded (omega (arith, h.sized)) (stands_for_any _ _))
     | inr apart ↦ micro_op_else words old before a Undecoded apart (h.each a within out (not_behind a before from to within start place apart out end))
   ];
 })
@@ -193,7 +170,8 @@ forgotten_before words old new from to before h is start end place = subst (λ m
 -- Both. -------------------------------------------------------------------------------------------
 
 -- words that are the same outside of a range leave what is decoded of others
-pub cache_beside : (words words' : List ℕ) (cache : DecodeCache) (from to : ℕ) → IsCache words cache → ((a : ℕ) → IsOutside a from to → word_at words a ≡ word_at words' a) → IsCacheBeside words' cache from to
+pub cache_beside : (words words' : List ℕ) (cache : DecodeCache) (from to : ℕ) → IsCache words cache → ((a : ℕ) → IsOutside a from to → word_at words a ≡ word_at words' a)
+    → IsCacheBeside words' cache from to
 cache_beside words words' cache from to h same = record {
   decoded = record {
     sized = h.decoded.sized;
@@ -201,29 +179,33 @@ cache_beside words words' cache from to h same = record {
   };
   micro_ops = record {
     sized = h.micro_ops.sized;
-    each = λ a within out out' op.
-        let Stands : Decoded → Type 0 = λ d. CanStandFor (slice_index_or cache.micro_ops.items a op) d.instr d.next_size in
-        subst Stands (ap₂ decoded_of (same a out) (same (behind a) out')) (h.micro_ops.each a within op);
+    each = λ a within out out' op. subst (λ (d : Decoded). CanStandFor (slice_index_or cache.micro_ops.items a op) d.instr d.next_size) (ap₂ decoded_of (same a out) (same (behind a) out'))
+        (h.micro_ops.each a within op);
   };
 }
 
 -- an erased page
-pub erased_beside : (words new : List ℕ) (cache : DecodeCache) (page : ℕ) → IsCache words cache → length words ≡ word_count → page < page_count → length new ≡ page_words → IsCacheBeside (set_page words page new) cache (page_words * page) (page_words * page + page_words)
+pub erased_beside : (words new : List ℕ) (cache : DecodeCache) (page : ℕ) → IsCache words cache → length words ≡ word_count → page < page_count → length new ≡ page_words
+    → IsCacheBeside (set_page words page new) cache (page_words * page) (page_words * page + page_words)
 erased_beside words new cache page h size few long =
     let inside : page_words * page + page_words ≤ length words = omega (arith, size) in
     cache_beside words (set_page words page new) cache (page_words * page) (page_words * page + page_words) h (λ a out. sym (word_out_of_page words new page a long inside out))
 
 -- a page with its words, whose micro-operations are told
-pub told_page : (words new : List ℕ) (micro_ops : List MicroOp) (page : ℕ) → length words ≡ word_count → page < page_count → length new ≡ page_words → StandForPage new micro_ops → (i : ℕ) (op : MicroOp) → i + 1 < page_words → StandsAt (set_page words page new) (page_words * page + i) (slice_index_or micro_ops i op)
+pub told_page : (words new : List ℕ) (micro_ops : List MicroOp) (page : ℕ) → length words ≡ word_count → page < page_count → length new ≡ page_words → StandForPage new micro_ops
+    → (i : ℕ) (op : MicroOp) → i + 1 < page_words → StandsAt (set_page words page new) (page_words * page + i) (slice_index_or micro_ops i op)
 told_page words new micro_ops page size few long stand i op near =
     let first = page_words * page in
     let next : behind (first + i) ≡ first + (i + 1) = omega arith in
-    let one : word_at (set_page words page new) (first + i) ≡ word_at new i = word_in_page words new page (first + i) long (omega arith) (omega arith) (omega arith) ∙ ap (word_at new) (omega arith) in
-    let two : word_at (set_page words page new) (behind (first + i)) ≡ word_at new (i + 1) = ap (word_at (set_page words page new)) next ∙ word_in_page words new page (first + (i + 1)) long (omega arith) (omega arith) (omega arith) ∙ ap (word_at new) (omega arith) in
+    let word = λ (k : ℕ) (below : k < page_words). word_in_page words new page (first + k) long (omega (arith, size)) (omega arith) (omega arith)
+    ∙ ap (word_at new) (let place : first + k - first ≡ k = omega arith in place) in
+    let one : word_at (set_page words page new) (first + i) ≡ word_at new i = word i (omega arith) in
+    let two : word_at (set_page words page new) (behind (first + i)) ≡ word_at new (i + 1) = rw next (word (i + 1) near) in
     subst (λ (d : Decoded). CanStandFor (slice_index_or micro_ops i op) d.instr d.next_size) (ap₂ decoded_of (sym one) (sym two)) (stand i op near)
 
 -- a word of a page that is the same in the words that the page gets
-word_kept : (words new : List ℕ) (page a : ℕ) → length new ≡ page_words → page_words * page + page_words ≤ length words → page_words * page ≤ a → a < page_words * page + page_words → slice_index (page_of words page) (a - page_words * page) ≡ slice_index new (a - page_words * page) → word_at words a ≡ word_at (set_page words page new) a
+word_kept : (words new : List ℕ) (page a : ℕ) → length new ≡ page_words → page_words * page + page_words ≤ length words → page_words * page ≤ a → a < page_words * page + page_words
+    → slice_index (page_of words page) (a - page_words * page) ≡ slice_index new (a - page_words * page) → word_at words a ≡ word_at (set_page words page new) a
 word_kept words new page a long inside above below same =
     let k = a - page_words * page in
     let there : page_words * page + k ≡ a = omega arith in
@@ -240,17 +222,11 @@ rewritten_beside words new cache page from to h size few long within before behi
     cache_beside words (set_page words page new) cache (first + from) (first + to) h (λ a out. elim (cases_lt a first) [
       | inl below ↦ sym (word_out_of_page words new page a long inside (inl below))
       | inr start ↦ elim (cases_lt a (first + page_words)) [
-        | inl there ↦ word_kept words new page a long inside start there (elim out [
-          | inl lower ↦ before (a - first) (omega arith)
-          | inr higher ↦ behind (a - first) (omega arith) (omega arith)
-        ])
+        | inl there ↦ word_kept words new page a long inside start there (elim out [ inl lower ↦ before (a - first) (omega arith) | inr higher ↦ behind (a - first) (omega arith) (omega arith) ])
         | inr above ↦ sym (word_out_of_page words new page a long inside (inr above))
       ]
     ])
 
 -- what stays as it was
-pub decoded_stay : (words : List ℕ) (old new : List Decoded) (from to : ℕ) → new ≡ old → AreDecodedBeside words old from to → AreDecodedBeside words new from to
-decoded_stay words old new from to is h = subst (λ decoded. AreDecodedBeside words decoded from to) (sym is) h
-
 pub micro_ops_stay : (words : List ℕ) (old new : List MicroOp) → new ≡ old → AreMicroOps words old → AreMicroOps words new
-micro_ops_stay words old new is h = subst (AreMicroOps words) (sym is) h
+micro_ops_stay words old new is h = rw is h

@@ -1,8 +1,8 @@
 -- Serves private functions and the contracts of `Flash::micro_ops` and `Flash::program_known`: what is decoded of the words of flash: what each of the first
 -- word addresses has, and for every word address the micro-operation of what is decoded there, or none.
 use Rattle.std.specs.Prelude.{ℕ, ◌≡◌, ◌+◌, ◌<◌, ◌≤◌, ◌⊎◌, List, length, slice_index_or}
-use Rattle.avr_ops.specs.declared.micro_op.MicroOp.{MicroOp}
-use Rattle.avr_ops.specs.MicroOps.{CanStandFor}
+use Rattle.flash_model.specs.declared.micro_ops.MicroOp.{MicroOp}
+use Rattle.flash_model.specs.MicroOps.{CanStandFor}
 use Rattle.flash_words.specs.Pages.{word_count, page_words, word_at}
 use Rattle.flash_model.specs.declared.decoded.Decoded.{Decoded}
 use Rattle.flash_model.specs.declared.decode_cache.DecodeCache.{DecodeCache}

@@ -1,3 +1,4 @@
 pub mod Code
 pub mod DecodeCache
 pub mod DecodedPairs
+pub mod MicroOps

@@ -1,17 +1,17 @@
 //! What is decoded of the words of flash, and what of it is made anew when words change.
 
 ghost use Rattle.std.specs.Prelude.{◌≡◌, ◌≤◌, ◌<◌, ◌+◌, ◌-◌, ◌++◌, List, ℕ, length, take, drop, replicate, IfOk, IfSome, slice_set, slice_index_or};
-ghost use Rattle.avr_ops.specs.declared.micro_op.MicroOp.{MicroOp};
-ghost use Rattle.avr_ops.specs.declared.micro_op.MicroOp.TheVariants.{Undecoded};
+ghost use Rattle.flash_model.specs.declared.micro_ops.MicroOp.{MicroOp};
+ghost use Rattle.flash_model.specs.declared.micro_ops.MicroOp.TheVariants.{Undecoded};
 ghost use Rattle.flash_words.specs.Pages.{word_count, page_words};
 ghost use Rattle.flash_model.specs.Code.{decoded_at};
 ghost use Rattle.flash_model.specs.DecodeCache.{StandsAt, IsCache, IsCacheBeside, AreDecoded, AreDecodedOutside, AreDecodedBeside};
 
+use crate::MicroOp;
 use crate::decoded::Decoded;
 use crate::decoded_pairs::DecodedPairs;
-use avr_ops::MicroOp;
+use base::NoMemory;
 use flash_words::{self, Cells, WORDS};
-use no_memory::NoMemory;
 use std::alloc::{AllocError, Global};
 
 /// The words of a page.

@@ -2,12 +2,12 @@
 
 ghost use Rattle.std.specs.Prelude.{◌≡◌, ◌≤◌};
 ghost use Rattle.avr_isa.specs.declared.form.Form.TheVariants.{Nop};
-ghost use Rattle.avr_ops.specs.MicroOps.{CanStandFor};
+ghost use Rattle.flash_model.specs.MicroOps.{CanStandFor};
 ghost use Rattle.flash_model.specs.Code.{decoded_of};
 
+use crate::MicroOp;
 use avr_decode::{decode, size_by_first_word};
 use avr_isa::{Form, Instr};
-use avr_ops::MicroOp;
 
 /// What is decoded at a word address.
 #[derive(Clone, Copy)]

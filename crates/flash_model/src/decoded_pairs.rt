@@ -4,7 +4,7 @@ ghost use Rattle.std.specs.Prelude.{◌≡◌, ◌<◌};
 ghost use Rattle.flash_model.specs.Code.{decoded_of};
 
 use crate::decoded::Decoded;
-use no_memory::NoMemory;
+use base::NoMemory;
 use std::alloc::Global;
 use std::marker::Model;
 

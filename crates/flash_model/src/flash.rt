@@ -11,12 +11,12 @@ ghost use Rattle.flash_words.specs.Rewriting.{rewriting, refusal_in_rewriting};
 ghost use Rattle.flash_words.specs.Jumps.{HasNoJumpInto};
 ghost use Rattle.flash_words.specs.Heads.{head};
 
+use crate::MicroOp;
 use crate::changed_words::{first_changed, last_changed};
 use crate::decode_cache::{DecodeCache, PAGE_WORDS};
 use crate::decoded::Decoded;
-use avr_ops::MicroOp;
+use base::NoMemory;
 use flash_words::{Cells, FlashStop, RewriteStop};
-use no_memory::NoMemory;
 use std::alloc::Global;
 use std::marker::Model;
 

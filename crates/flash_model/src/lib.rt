@@ -18,7 +18,10 @@
 //! and the page of the last one that was refused.
 //!
 //! [`Flash::decoded`] gives what is decoded at a word address (`decoded.rt`, `specs/Code.antt`), and [`Flash::micro_ops`] the
-//! micro-operation of it, which a step is made by. A micro-operation is made when it is first asked for
+//! micro-operation of it, which a step is made by. A [`Form`](avr_isa::Form) of many operations holds which of them it is, so who
+//! executes it chooses twice. A [`MicroOp`] is chosen among once, and its operands are at hand, in four bytes: it has a variant
+//! for each instruction that programs meet often, and all others are [`MicroOp::Other`], executed by their form
+//! (`specs/MicroOps`). It is made when it is first asked for
 //! ([`Flash::predecode`]), so what no step comes to is never decoded, or told with a page's words ([`Flash::program_known`]). Behind each operation on a page `decode_cache.rt`
 //! forgets those of the words that changed. [`Flash::rewrite`] erases a page and programs it, and forgets them from the first
 //! word that is another up to the last (`changed_words.rt`). Pairs of words that were decoded already are not decoded again
@@ -38,6 +41,8 @@ mod decoded;
 mod decoded_pairs;
 mod flash;
 mod image;
+mod making;
+mod micro_ops;
 
 pub use decoded::{Decoded, micro_op};
 pub use flash::Flash;
@@ -46,3 +51,4 @@ pub use flash_words::{
     MOST_IMAGE_WORDS, PAGE_WORDS, PAGES, RET, RewriteStop,
 };
 pub use image::word_in_image;
+pub use micro_ops::MicroOp;

@@ -3,20 +3,26 @@ use Rattle.std.proofs.Common.{◌≡◌, ℕ, ◌+◌, ◌-◌, ◌*◌, ◌<◌
 use Rattle.std.proofs.lemmas.List.{length-append, get_or_append_left, get_or-append_right, append_assoc, take_at}
 use Rattle.std.proofs.lemmas.Grind.{same_number_lists}
 use Rattle.flash_words.specs.Pages.{word_count, page_words, word_at, page_of, blank}
-use Rattle.base_laws.specs.Lists.{many}
+use Rattle.base.specs.Lists.{many}
 use Rattle.flash_words.specs.Memory.{kernel_first, return_word, loaded}
 use Rattle.flash_words.proofs.PageLaws.{page_word, length-page_of}
-use Rattle.base_laws.proofs.ManyLaws.{length-many, get_or-many}
+use Rattle.base.proofs.ManyLaws.{length-many, get_or-many}
+
+-- the words between the image and the kernel
+abbrev gap : List ℕ → List ℕ
+gap image = many (kernel_first - length image) 0xFFFF
+
+-- the kernel's words
+abbrev kernel : List ℕ
+kernel = many (word_count - kernel_first) return_word
 
 pub length-loaded : (image : List ℕ) → length image ≤ kernel_first → length (loaded image) ≡ word_count
 unfolding loaded
 length-loaded image fits =
-    let gap = many (kernel_first - length image) 0xFFFF in
-    let kernel = many (word_count - kernel_first) return_word in
     omega (
       arith,
-      length-append (image ++ gap) kernel,
-      length-append image gap,
+      length-append (image ++ gap image) kernel,
+      length-append image (gap image),
       length-many (kernel_first - length image) 0xFFFF,
       length-many (word_count - kernel_first) return_word,
     )
@@ -25,27 +31,23 @@ length-loaded image fits =
 pub loaded_image : (image : List ℕ) → take (length image) (loaded image) ≡ image
 unfolding loaded
 loaded_image image =
-    let gap = many (kernel_first - length image) 0xFFFF in
-    let kernel = many (word_count - kernel_first) return_word in
-    ap (take (length image)) (append_assoc image gap kernel) ∙ take_at image (gap ++ kernel) (length image) refl
+    ap (take (length image)) (append_assoc image (gap image) kernel) ∙ take_at image (gap image ++ kernel) (length image) refl
 
 -- a word after the image and before the kernel
 pub loaded_blank : (image : List ℕ) (a : ℕ) → length image ≤ a → a < kernel_first → word_at (loaded image) a ≡ 0xFFFF
 unfolding loaded
 loaded_blank image a after before =
-    let gap = many (kernel_first - length image) 0xFFFF in
-    let kernel = many (word_count - kernel_first) return_word in
     let long = length-many (kernel_first - length image) 0xFFFF in
-    get_or_append_left (image ++ gap) kernel 0 a (omega (arith, length-append image gap)) ∙ get_or-append_right image gap (length image) a 0 refl after ∙ get_or-many (kernel_first - length image) 0xFFFF (a - length image) (omega arith)
+    get_or_append_left (image ++ gap image) kernel 0 a (omega (arith, length-append image (gap image))) ∙ get_or-append_right image (gap image) (length image) a 0 refl after
+    ∙ get_or-many (kernel_first - length image) 0xFFFF (a - length image) (omega arith)
 
 -- a word of the kernel
 pub loaded_kernel : (image : List ℕ) (a : ℕ) → length image ≤ kernel_first → kernel_first ≤ a → a < word_count → word_at (loaded image) a ≡ return_word
 unfolding loaded
 loaded_kernel image a fits from to =
-    let gap = many (kernel_first - length image) 0xFFFF in
-    let kernel = many (word_count - kernel_first) return_word in
     let long = length-many (kernel_first - length image) 0xFFFF in
-    get_or-append_right (image ++ gap) kernel kernel_first a 0 (omega (arith, length-append image gap)) from ∙ get_or-many (word_count - kernel_first) return_word (a - kernel_first) (omega arith)
+    get_or-append_right (image ++ gap image) kernel kernel_first a 0 (omega (arith, length-append image (gap image))) from
+    ∙ get_or-many (word_count - kernel_first) return_word (a - kernel_first) (omega arith)
 
 -- a page after the image and before the kernel is erased
 pub loaded_page : (image : List ℕ) (page : ℕ) → length image ≤ page_words * page → page < 480 → page_of (loaded image) page ≡ blank

@@ -19,8 +19,7 @@ no_bit n i fits above = ap (λ q. q % 2) (div-eq_of_lt (let grows : 2 ^ 64 ≤ 2
 
 -- a page whose bit isn't set
 not_set : (set : PageSet) (page n k : ℕ) → n ≡ slice_index set.bits (page / 64 % 8) → k ≡ page % 64 → bit_at n k ≡ 0 → has_page set page ≡ false
-not_set set page n k word place none =
-    ap (λ b. b == 1) (ap (λ w. bit_at w (page % 64)) (sym word) ∙ ap (bit_at n) (sym place) ∙ none)
+not_set set page n k word place none = rw (← word, ← place, none)
 
 -- no bit of a page's word is set
 pub no_page : (set : PageSet) (page : ℕ) → slice_index set.bits (page / 64 % 8) ≡ 0 → has_page set page ≡ false
@@ -36,10 +35,10 @@ none_before set page n d word room none lower from to =
     not_set set lower n (page % 64 + i) (word ∙ ap (slice_index set.bits) same) place (sym (bit_behind n (page % 64) i) ∙ none i (omega arith))
 
 -- where none of them is set
-pub word_passed : (set : PageSet) (page n : ℕ) → n ≡ slice_index set.bits (page / 64 % 8) → n / 2 ^ (page % 64) ≡ 0
+pub word_passed : (set : PageSet) (page i : ℕ) → i ≡ page / 64 % 8 → slice_index set.bits i / 2 ^ (page % 64) ≡ 0
     → (lower : ℕ) → page ≤ lower → lower < page / 64 * 64 + 64 → has_page set lower ≡ false
-word_passed set page n word zeros lower from to =
-    none_before set page n (64 - page % 64) word (omega arith) (λ i below. ap (λ rest. bit_at rest i) zeros ∙ bit_at-zero i) lower from (omega arith)
+word_passed set page i is zeros lower from to =
+    none_before set page (slice_index set.bits i) (64 - page % 64) (ap (slice_index set.bits) is) (omega arith) (λ k below. ap (λ rest. bit_at rest k) zeros ∙ bit_at-zero k) lower from (omega arith)
 
 -- the lowest that is set is in the same word
 pub lowest_near : (n k : ℕ) → n < 2 ^ 64 → n / 2 ^ k < 2 ^ 64 → 0 < n / 2 ^ k → k + trailing_zeros w64 (n / 2 ^ k) < 64
@@ -52,7 +51,9 @@ lowest_near n k fits fits' some = elim (cases_lt (k + trailing_zeros w64 (n / 2 
 ]
 
 -- .. and none before it is
-pub none_lower : (set : PageSet) (page n : ℕ) → n ≡ slice_index set.bits (page / 64 % 8) → n < 2 ^ 64 → n / 2 ^ (page % 64) < 2 ^ 64 → 0 < n / 2 ^ (page % 64)
-    → (lower : ℕ) → page ≤ lower → lower < page + trailing_zeros w64 (n / 2 ^ (page % 64)) → has_page set lower ≡ false
-none_lower set page n word fits fits' some =
-    none_before set page n (trailing_zeros w64 (n / 2 ^ (page % 64))) word (omega (arith, lowest_near n (page % 64) fits fits' some)) (bit_at-trailing_zeros w64 (n / 2 ^ (page % 64)) some fits').2
+pub none_lower : (set : PageSet) (page i : ℕ) → i ≡ page / 64 % 8 → slice_index set.bits i < 2 ^ 64 → slice_index set.bits i / 2 ^ (page % 64) < 2 ^ 64 → 0 < slice_index set.bits i / 2 ^ (page % 64)
+    → (lower : ℕ) → page ≤ lower → lower < page + trailing_zeros w64 (slice_index set.bits i / 2 ^ (page % 64)) → has_page set lower ≡ false
+none_lower set page i is fits fits' some =
+    let n = slice_index set.bits i in
+    none_before set page n (trailing_zeros w64 (n / 2 ^ (page % 64))) (ap (slice_index set.bits) is) (omega (arith, lowest_near n (page % 64) fits fits' some))
+    (bit_at-trailing_zeros w64 (n / 2 ^ (page % 64)) some fits').2

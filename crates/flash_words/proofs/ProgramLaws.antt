@@ -7,7 +7,7 @@ use Rattle.flash_words.specs.Pages.{word_count, page_count, page_words, word_at,
 use Rattle.flash_words.specs.Memory.{AreWords}
 use Rattle.flash_words.specs.JumpSets.{IsBlankFrom}
 use Rattle.flash_words.proofs.PageLaws.{word_in_page, word_out_of_page, page_word, length-page_of}
-use Rattle.base_laws.proofs.ManyLaws.{length-many, get_or-many}
+use Rattle.base.proofs.ManyLaws.{length-many, get_or-many}
 
 pub length-blank : length blank ≡ page_words
 unfolding blank
@@ -28,12 +28,11 @@ full : (old new : ℕ) → bit_and old new ≡ 0xFFFF → old < 65536 → old �
 full old new is fits = omega (arith, and_le_l old new)
 
 -- a word that is 0xFFFF once it was programmed was so before
-programmed_left : (page words : List ℕ) (n k : ℕ) → length page ≡ n → length words ≡ n → k < n → slice_index (programmed page words) k ≡ 0xFFFF → slice_index page k < 65536 → slice_index page k ≡ 0xFFFF
-programmed_left [] words n k size size' below left fits = absurd (omega arith)
-programmed_left (old ∷ page) [] n k size size' below left fits = absurd (omega arith)
-programmed_left (old ∷ page) (new ∷ words) zero k size size' below left fits = absurd (omega arith)
+programmed_left : (page words : List ℕ) (n k : ℕ) → length page ≡ n → length words ≡ n → k < n → slice_index (programmed page words) k ≡ 0xFFFF → slice_index page k < 65536
+    → slice_index page k ≡ 0xFFFF
 programmed_left (old ∷ page) (new ∷ words) (suc n) zero size size' below left fits = full old new left fits
 programmed_left (old ∷ page) (new ∷ words) (suc n) (suc k) size size' below left fits = programmed_left page words n k (omega arith) (omega arith) (omega arith) left fits
+programmed_left _ _ _ _ size size' below left fits = absurd (omega arith)
 
 -- a word of a page that is 0xFFFF once the page was programmed stays
 word_left : (words new : List ℕ) (page a : ℕ) → length words ≡ word_count → AreWords words → page < page_count → length new ≡ page_words → page_words * page ≤ a → a < page_words * page + page_words

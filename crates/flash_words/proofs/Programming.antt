@@ -4,7 +4,7 @@ use Rattle.std.specs.Prelude.{bit_and, replicate}
 use Rattle.std.proofs.Common.{mod-eq_of_lt}
 use Rattle.std.proofs.lemmas.Grind.{numeral_and}
 use Rattle.flash_words.specs.Pages.{blank, programmed}
-use Rattle.base_laws.specs.Lists.{many}
+use Rattle.base.specs.Lists.{many}
 
 -- a word of an erased page takes the new word
 and-erased : (w : ℕ) → w < 2 ^ 16 → bit_and 0xFFFF w ≡ w

@@ -1,7 +1,7 @@
 -- The flash as contracts see it, and as it is first.
 use Rattle.std.specs.Prelude.{◌≡◌, ℕ, ◌-◌, ◌<◌, List, [], ◌++◌, length, Option, None}
 use Rattle.flash_words.specs.Pages.{word_count, page_count, word_at}
-use Rattle.base_laws.specs.Lists.{many}
+use Rattle.base.specs.Lists.{many}
 
 -- the words from address 0 on, how often each page was erased, the numbers of the operations that are to fail,
 -- how many operations were tried, and the page of the last one that was refused

@@ -1,7 +1,7 @@
 -- Program memory as a list of words in pages, and what a page holds after an operation on it
 -- (ATmega128 datasheet, "Boot Loader Support", "Self-Programming the Flash": the flash is erased and programmed page by page).
 use Rattle.std.specs.Prelude.{ℕ, ◌+◌, ◌-◌, ◌*◌, ◌^◌, min, List, [], ◌∷◌, ◌++◌, take, drop, slice_index, bit_and}
-pub use Rattle.base_laws.specs.Lists.{many}
+pub use Rattle.base.specs.Lists.{many}
 
 -- how many words, pages, and words of a page there are
 abbrev pub word_count : ℕ

@@ -13,18 +13,13 @@ abbrev pub chosen : Bool → Bool → Bool → Bool → AddrClass
 chosen register core stack heap = cond register Register (cond core Cpu (cond stack Stack (cond heap Heap Io)))
 
 chosen_stack : (p q s h : Bool) → chosen p q s h ≡ Stack → s ≡ true
-chosen_stack true q s h is = absurd (cc)
-chosen_stack false true s h is = absurd (cc)
 chosen_stack false false true h is = refl
 chosen_stack false false false true is = absurd (cc)
-chosen_stack false false false false is = absurd (cc)
+chosen_stack _ _ _ _ is = absurd (cc)
 
 chosen_heap : (p q s h : Bool) → chosen p q s h ≡ Heap → h ≡ true
-chosen_heap true q s h is = absurd (cc)
-chosen_heap false true s h is = absurd (cc)
-chosen_heap false false true h is = absurd (cc)
 chosen_heap false false false true is = refl
-chosen_heap false false false false is = absurd (cc)
+chosen_heap _ _ _ _ is = absurd (cc)
 
 pub class_stack : (a : ℕ) → class_of a ≡ Stack → is_stack a ≡ true
 unfolding class_of
@@ -60,11 +55,10 @@ no_memory a core =
 
 load_by : (register core stack heap : Bool) (s : FlatSpace) (a : ℕ) → (register || core ≡ true → (stack ≡ false) × (heap ≡ false))
     → cond (stack || heap) (Went (memory_byte s a) s) (from_device s a (read s.devices a)) ≡ load_in (chosen register core stack heap) s a
-load_by true core stack heap s a none = ap₂ (λ b c. cond (b || c) (Went (memory_byte s a) s) (from_device s a (read s.devices a))) (none refl).0 (none refl).1
-load_by false true stack heap s a none = ap₂ (λ b c. cond (b || c) (Went (memory_byte s a) s) (from_device s a (read s.devices a))) (none refl).0 (none refl).1
 load_by false false true heap s a none = refl
 load_by false false false true s a none = refl
 load_by false false false false s a none = refl
+load_by _ _ stack heap s a none = ap₂ (λ b c. cond (b || c) (Went (memory_byte s a) s) (from_device s a (read s.devices a))) (none refl).0 (none refl).1
 
 pub load_by_class : (s : FlatSpace) (a : ℕ) → flat_calls.load s a ≡ load_in (class_of a) s a
 unfolding class_of
@@ -72,11 +66,10 @@ load_by_class s a = load_by (nat_lt a 0x20) (nat_le 0x5D a && nat_le a 0x5F) (is
 
 store_by : (register core stack heap : Bool) (s : FlatSpace) (a v : ℕ) → (register || core ≡ true → (stack ≡ false) × (heap ≡ false))
     → cond stack (Went tt (with_memory s a v)) (cond heap (store_to_heap s a v) (to_device s a (write s.devices a v))) ≡ store_in (chosen register core stack heap) s a v
-store_by true core stack heap s a v none = ap₂ (λ b c. cond b (Went tt (with_memory s a v)) (cond c (store_to_heap s a v) (to_device s a (write s.devices a v)))) (none refl).0 (none refl).1
-store_by false true stack heap s a v none = ap₂ (λ b c. cond b (Went tt (with_memory s a v)) (cond c (store_to_heap s a v) (to_device s a (write s.devices a v)))) (none refl).0 (none refl).1
 store_by false false true heap s a v none = refl
 store_by false false false true s a v none = refl
 store_by false false false false s a v none = refl
+store_by _ _ stack heap s a v none = ap₂ (λ b c. cond b (Went tt (with_memory s a v)) (cond c (store_to_heap s a v) (to_device s a (write s.devices a v)))) (none refl).0 (none refl).1
 
 pub store_by_class : (s : FlatSpace) (a v : ℕ) → flat_calls.store s a v ≡ store_in (class_of a) s a v
 unfolding class_of

@@ -1,6 +1,7 @@
 -- Laws of the flat machine: what a try is in each case, and what a run does first.
-use Rattle.std.proofs.Common.{◌≡◌, ℕ, zero, suc, Bool, true, false, not, ◌&&◌, cond, refl, ap, ap₂, ◌∙◌}
+use Rattle.std.proofs.Common.{◌≡◌, ℕ, zero, suc, true, false, not, ◌&&◌, cond, refl, ap, ap₂, ◌∙◌}
 use Rattle.std.specs.Prelude.{Option, Some, None}
+use Rattle.std.proofs.lemmas.Bool.{cond-true, cond-false}
 use Rattle.avr_isa.specs.declared.form.Form.{Form}
 use Rattle.avr_isa.specs.declared.form.Form.TheVariants.{Sleep, Spm}
 use Rattle.avr_decode.specs.Program.{instruction_at}
@@ -8,7 +9,8 @@ use Rattle.avr_flags.specs.Status.{has_bit, interrupts}
 use Rattle.avr_exec.specs.Execution.{exec_of, is_executed}
 use Rattle.mote_devices.specs.declared.line.Line.{Line}
 use Rattle.flat_machine.specs.FlatSpace.{flat_calls}
-use Rattle.flat_machine.specs.FlatMachine.{Program, FlatState, End, Spent, Wild, Illegal, SelfProgram, Halted, Read, Tried, Stops, Moment, Ends, On, next_of, next_by, is_taken, interrupted, slept, next_size, jumps_to_itself, space_of, stepped, executed, is_inside, foreign_word, read_or_executed, tried_form, tried, ended, with_line, followed, run}
+use Rattle.flat_machine.specs.FlatMachine.{Program, FlatState, End, Spent, Wild, Illegal, SelfProgram, Halted, Read, Tried, Stops, Moment, Ends, On, next_of, next_by, is_taken, interrupted, slept}
+use Rattle.flat_machine.specs.FlatMachine.{next_size, jumps_to_itself, space_of, stepped, executed, is_inside, foreign_word, read_or_executed, tried_form, tried, ended, with_line, followed, run}
 
 -- the cases of a try, by the instruction at the pc
 pub tried_illegal : (program : Program) (s : FlatState) → instruction_at program.image s.cpu.pc ≡ None → tried program s ≡ Stops (Illegal s.cpu.pc)
@@ -50,35 +52,32 @@ tried_halt program s form is runs own itself off =
     tried_other program s form is runs own
     ∙ ap₂ (λ a b. cond (a && not b) (Stops (Halted s.cpu.pc)) (stepped s (exec_of flat_calls form s.cpu (space_of program s) (next_size program.image s.cpu.pc)))) itself off
 
-either_step : (a b : Bool) (x y : Tried) → a && not b ≡ false → cond (a && not b) x y ≡ y
-either_step a b x y off = ap (λ c. cond c x y) off
-
 -- every other instruction is executed over the flat space
 pub tried_step : (program : Program) (s : FlatState) (form : Form) → instruction_at program.image s.cpu.pc ≡ Some form → is_executed form ≡ true
     → foreign_word program s form ≡ None → jumps_to_itself s.cpu.pc form && not (has_bit s.cpu.sreg interrupts) ≡ false
     → tried program s ≡ stepped s (exec_of flat_calls form s.cpu (space_of program s) (next_size program.image s.cpu.pc))
 tried_step program s form is runs own goes =
-    tried_other program s form is runs own ∙ either_step (jumps_to_itself s.cpu.pc form) (has_bit s.cpu.sreg interrupts) _ _ goes
+    tried_other program s form is runs own ∙ cond-false (jumps_to_itself s.cpu.pc form && not (has_bit s.cpu.sreg interrupts)) _ _ goes
 
 -- what comes next: an interrupt, or what the instruction is
 pub next_taken : (program : Program) (m : Moment) → is_taken m ≡ true → next_of program m ≡ interrupted program m.now
 unfolding next_of
-next_taken program m is = ap (λ b. cond b (interrupted program m.now) (next_by program.quantum m.now (tried program m.now))) is
+next_taken program m is = cond-true (is_taken m) _ _ is
 
 pub next_tried : (program : Program) (m : Moment) (t : Tried) → is_taken m ≡ false → tried program m.now ≡ t → next_of program m ≡ next_by program.quantum m.now t
 unfolding next_of
-next_tried program m t is same = ap (λ b. cond b (interrupted program m.now) (next_by program.quantum m.now (tried program m.now))) is ∙ ap (next_by program.quantum m.now) same
+next_tried program m t is same = cond-false (is_taken m) _ _ is ∙ ap (next_by program.quantum m.now) same
 
 -- a run outside the program's part
 pub run_wild : (program : Program) (m : Moment) (n : ℕ) → is_inside program m.now.cpu.pc ≡ false → run program m n ≡ ended (Wild m.now.cpu.pc) m
 unfolding run
-run_wild program m zero out = ap (λ b. cond b (ended Spent m) (ended (Wild m.now.cpu.pc) m)) out
-run_wild program m (suc n) out = ap (λ b. cond b (followed m (next_of program m) (λ next. run program next n)) (ended (Wild m.now.cpu.pc) m)) out
+run_wild program m zero out = cond-false (is_inside program m.now.cpu.pc) _ _ out
+run_wild program m (suc n) out = cond-false (is_inside program m.now.cpu.pc) _ _ out
 
 -- a run of no steps inside it
 pub run_spent : (program : Program) (m : Moment) → is_inside program m.now.cpu.pc ≡ true → run program m 0 ≡ ended Spent m
 unfolding run
-run_spent program m inside = ap (λ b. cond b (ended Spent m) (ended (Wild m.now.cpu.pc) m)) inside
+run_spent program m inside = cond-true (is_inside program m.now.cpu.pc) _ _ inside
 
 -- a run that begins with a stop
 pub run_stops : (program : Program) (m : Moment) (n : ℕ) (end : End) → is_inside program m.now.cpu.pc ≡ true → next_of program m ≡ Ends end

@@ -29,7 +29,9 @@ use Rattle.mote_devices.specs.Accesses.{Asked, Gave, Refused, read, write, modif
 use Rattle.flat_machine.specs.declared.part.Part.{Part}
 use Rattle.flat_machine.specs.FlatSpace.{FlatSpace, flat_calls, flat_stack, store_to_heap, from_device, to_device, has_page, has_room, with_page, with_memory, memory_byte}
 use Rattle.flat_machine.proofs.MachineLaws.{form_tried}
-use Rattle.flat_machine.specs.FlatMachine.{Program, FlatState, Moment, Run, Stops, Halted, Wild, Next, Ends, On, is_own, is_inside, word_asked, if_foreign, foreign_word, read_or_executed, tried, tried_form, executed, stepped, space_of, next_size, jumps_to_itself, next_of, next_by, is_taken, interrupted, interrupted_by, lowest, followed, with_line, ended, run}
+use Rattle.flat_machine.specs.FlatMachine.{Program, FlatState, Moment, Run, Stops, Halted, Wild, Next, Ends, On, is_own, is_inside, word_asked, if_foreign, foreign_word, read_or_executed, tried}
+use Rattle.flat_machine.specs.FlatMachine.{tried_form, executed, stepped, space_of, next_size, jumps_to_itself, next_of, next_by, is_taken, interrupted, interrupted_by, lowest, followed, with_line}
+use Rattle.flat_machine.specs.FlatMachine.{ended, run}
 use Rattle.flat_machine.specs.Masked.{masked_from, masked, alone, IsFramed}
 use Rattle.mote_devices.specs.Waking.{enabled}
 
@@ -66,6 +68,13 @@ told_alike : {A B : Type 0} (other : List ℕ) (f : A → B) (o o' : Outcome Fla
 told_alike other f (Went answer next) o' same = ap (answered_by f) same
 told_alike other f (Stopped stop) o' same = ap (answered_by f) same
 
+pushed_alike : (other : List ℕ) (s : FlatSpace) (sp ret : ℕ) → Alike other (push_return_on flat_stack s sp ret) (push_return_on flat_stack (with_image other s) sp ret)
+unfolding push_return_on
+pushed_alike other s sp ret =
+    let below = wrapping_difference sp 1 in
+    either_alike other (is_stack sp) _ _ (Stopped (StackStop sp)) _
+    (either_alike other (is_stack below) (Went tt (with_memory (with_memory s sp (ret % 256)) below (ret / 256))) _ (Stopped (StackStop below)) _ refl refl) refl
+
 answers_alike : (other : List ℕ) (s : FlatSpace) (ask : Ask) → ReadsAlike s.image other s ask → Alike other (answer_of flat_calls s ask) (answer_of flat_calls (with_image other s) ask)
 unfolding answer_of push_on pop_from push_return_on pop_return_from
 answers_alike other s asks.Nothing reads = refl
@@ -81,16 +90,15 @@ answers_alike other s (asks.PushByte sp v) reads =
     told_alike other (λ _. Done) (push_on flat_stack s sp v) _
     (either_alike other (is_stack sp) (Went tt (with_memory s sp v)) _ (Stopped (StackStop sp)) _ refl refl)
 answers_alike other s (asks.PopByte sp) reads =
-    told_alike other Byte (pop_from flat_stack s sp) _
-    (either_alike other (is_stack (wrapping_sum sp 1)) (Went (memory_byte s (wrapping_sum sp 1)) s) _ (Stopped (StackStop (wrapping_sum sp 1))) _ refl refl)
-answers_alike other s (asks.PushReturn sp ret) reads =
-    told_alike other (λ _. Done) (push_return_on flat_stack s sp ret) _
-    (either_alike other (is_stack sp) _ _ (Stopped (StackStop sp)) _
-    (either_alike other (is_stack (wrapping_difference sp 1)) (Went tt (with_memory (with_memory s sp (ret % 256)) (wrapping_difference sp 1) (ret / 256))) _ (Stopped (StackStop (wrapping_difference sp 1))) _ refl refl) refl)
+    let a = wrapping_sum sp 1 in
+    told_alike other Byte (pop_from flat_stack s sp) _ (either_alike other (is_stack a) (Went (memory_byte s a) s) _ (Stopped (StackStop a)) _ refl refl)
+answers_alike other s (asks.PushReturn sp ret) reads = told_alike other (λ _. Done) (push_return_on flat_stack s sp ret) _ (pushed_alike other s sp ret)
 answers_alike other s (asks.PopReturn sp) reads =
+    let high = wrapping_sum sp 1 in
+    let low = wrapping_sum sp 2 in
     told_alike other Address (pop_return_from flat_stack s sp) _
-    (either_alike other (is_stack (wrapping_sum sp 1)) _ _ (Stopped (StackStop (wrapping_sum sp 1))) _
-    (either_alike other (is_stack (wrapping_sum sp 2)) (Went (memory_byte s (wrapping_sum sp 1) * 256 + memory_byte s (wrapping_sum sp 2)) s) _ (Stopped (StackStop (wrapping_sum sp 2))) _ refl refl) refl)
+    (either_alike other (is_stack high) _ _ (Stopped (StackStop high)) _
+    (either_alike other (is_stack low) (Went (memory_byte s high * 256 + memory_byte s low) s) _ (Stopped (StackStop low)) _ refl refl) refl)
 answers_alike other s (asks.Program z) reads = ap (λ v. Went (Byte v) (with_image other s)) reads
 answers_alike other s (asks.ExtendedProgram z) reads = ap (λ v. Went (Byte v) (with_image other s)) reads
 answers_alike other s (asks.ExtendedProgramRaising z) reads =
@@ -101,15 +109,17 @@ stepped_alike : (other : List ℕ) (s : FlatState) (o : Outcome FlatSpace Cpu) �
 stepped_alike other s (Went cpu space) = refl
 stepped_alike other s (Stopped stop) = refl
 
-executed_alike : (program : Program) (other : List ℕ) (s : FlatState) (form : Form) → next_size other s.cpu.pc ≡ next_size program.image s.cpu.pc → ReadsAlike program.image other (space_of program s) (ask_of form s.cpu)
-    → executed (record program { image = other }) s form ≡ executed program s form
+executed_alike : (program : Program) (other : List ℕ) (s : FlatState) (form : Form) → next_size other s.cpu.pc ≡ next_size program.image s.cpu.pc
+    → ReadsAlike program.image other (space_of program s) (ask_of form s.cpu) → executed (record program { image = other }) s form ≡ executed program s form
 executed_alike program other s form size reads =
     ap (cond (jumps_to_itself s.cpu.pc form && not (has_bit s.cpu.sreg interrupts)) (Stops (Halted s.cpu.pc)))
     (ap (λ n. stepped s (exec_of flat_calls form s.cpu (with_image other (space_of program s)) n)) size
-    ∙ ap (stepped s) (exec_alike flat_calls flat_calls (with_image other) form s.cpu (space_of program s) (next_size program.image s.cpu.pc) (answers_alike other (space_of program s) (ask_of form s.cpu) reads))
+    ∙ ap (stepped s) (exec_alike flat_calls flat_calls (with_image other) form s.cpu (space_of program s) (next_size program.image s.cpu.pc)
+    (answers_alike other (space_of program s) (ask_of form s.cpu) reads))
     ∙ stepped_alike other s (exec_of flat_calls form s.cpu (space_of program s) (next_size program.image s.cpu.pc)))
 
-stops_alike : (program : Program) (other : List ℕ) (s : FlatState) (form : Form) → is_executed form ≡ false → tried_form (record program { image = other }) s (Some form) ≡ tried_form program s (Some form)
+stops_alike : (program : Program) (other : List ℕ) (s : FlatState) (form : Form) → is_executed form ≡ false
+    → tried_form (record program { image = other }) s (Some form) ≡ tried_form program s (Some form)
 unfolding is_executed
 stops_alike program other s Sleep is = refl
 stops_alike program other s Spm is = refl
@@ -120,12 +130,13 @@ abbrev ReadsSame : Program → List ℕ → FlatState → Form → Type 0
 ReadsSame program other s form = foreign_word program s form ≡ None → ReadsAlike program.image other (space_of program s) (ask_of form s.cpu)
 
 read_alike : (program : Program) (other : List ℕ) (s : FlatState) (form : Form) (foreign : Option ℕ) → next_size other s.cpu.pc ≡ next_size program.image s.cpu.pc
-    → (foreign ≡ None → ReadsAlike program.image other (space_of program s) (ask_of form s.cpu)) → read_or_executed (record program { image = other }) s form foreign ≡ read_or_executed program s form foreign
+    → (foreign ≡ None → ReadsAlike program.image other (space_of program s) (ask_of form s.cpu))
+    → read_or_executed (record program { image = other }) s form foreign ≡ read_or_executed program s form foreign
 read_alike program other s form None size reads = executed_alike program other s form size (reads refl)
 read_alike program other s form (Some a) size reads = refl
 
-runs_alike : (program : Program) (other : List ℕ) (s : FlatState) (form : Form) (b : Bool) → is_executed form ≡ b → next_size other s.cpu.pc ≡ next_size program.image s.cpu.pc → ReadsSame program other s form
-    → tried_form (record program { image = other }) s (Some form) ≡ tried_form program s (Some form)
+runs_alike : (program : Program) (other : List ℕ) (s : FlatState) (form : Form) (b : Bool) → is_executed form ≡ b → next_size other s.cpu.pc ≡ next_size program.image s.cpu.pc
+    → ReadsSame program other s form → tried_form (record program { image = other }) s (Some form) ≡ tried_form program s (Some form)
 runs_alike program other s form false is size reads = stops_alike program other s form is
 runs_alike program other s form true is size reads =
     form_tried (record program { image = other }) s form is ∙ read_alike program other s form (foreign_word program s form) size reads ∙ sym (form_tried program s form is)
@@ -166,12 +177,11 @@ own_of shut true a is none = refl
 own_of true false a is none = absurd (cc)
 own_of false false a is none = absurd (cc)
 
-own_reads : (part : Part) (image : List ℕ) (s : FlatSpace) (ask : Ask) → part.shut ≡ true → if_foreign part (word_asked (stored s.devices rampz_address) ask) ≡ None → ReadsAlike image (masked part image) s ask
+own_reads : (part : Part) (image : List ℕ) (s : FlatSpace) (ask : Ask) → part.shut ≡ true → if_foreign part (word_asked (stored s.devices rampz_address) ask) ≡ None
+    → ReadsAlike image (masked part image) s ask
 own_reads part image s (asks.Program z) shut none = own_byte part image z (own_of part.shut (is_own part (z / 2)) (z / 2) shut none)
-own_reads part image s (asks.ExtendedProgram z) shut none =
-    let at = extended (stored s.devices rampz_address) z in own_byte part image at (own_of part.shut (is_own part (at / 2)) (at / 2) shut none)
-own_reads part image s (asks.ExtendedProgramRaising z) shut none =
-    let at = extended (stored s.devices rampz_address) z in own_byte part image at (own_of part.shut (is_own part (at / 2)) (at / 2) shut none)
+own_reads part image s (asks.ExtendedProgram z) shut none = own_byte part image _ (own_of part.shut _ _ shut none)
+own_reads part image s (asks.ExtendedProgramRaising z) shut none = own_byte part image _ (own_of part.shut _ _ shut none)
 own_reads part image s _ shut none = tt
 
 -- an address of the part, and the one behind it
@@ -196,23 +206,17 @@ masked_tried program s framed here =
     let pc = s.cpu.pc in
     let other = masked part program.image in
     elim (cases_lt (pc + 2) (part.first + part.count)) [
-      | inl low ↦ (
+      | inl low ↦
           let behind = own_word part program.image ((pc + 1) % 65536) (own_behind part pc framed.few here low) in
           let is : instruction_at other pc ≡ instruction_at program.image pc = ap₂ the_form (own_word part program.image pc here) behind in
           let size : next_size other pc ≡ next_size program.image pc = ap size_by_first_word behind in
-          tried_alike program other s is size (λ form none. own_reads part program.image (space_of program s) (ask_of form s.cpu) framed.shut none))
-      | inr high ↦ (
+          tried_alike program other s is size (λ form none. own_reads part program.image (space_of program s) (ask_of form s.cpu) framed.shut none)
+      | inr high ↦
           let blank = framed.erased pc here high in
-          ap (tried_form (alone program) s) (erased_form other pc (own_word part program.image pc here ∙ blank)) ∙ sym (ap (tried_form program s) (erased_form program.image pc blank)))
+          ap (tried_form (alone program) s) (erased_form other pc (own_word part program.image pc here ∙ blank)) ∙ sym (ap (tried_form program s) (erased_form program.image pc blank))
     ]
 
 -- an interrupt reads no word of the program
-pushed_alike : (other : List ℕ) (s : FlatSpace) (sp ret : ℕ) → Alike other (push_return_on flat_stack s sp ret) (push_return_on flat_stack (with_image other s) sp ret)
-unfolding push_return_on
-pushed_alike other s sp ret =
-    either_alike other (is_stack sp) _ _ (Stopped (StackStop sp)) _
-    (either_alike other (is_stack (wrapping_difference sp 1)) (Went tt (with_memory (with_memory s sp (ret % 256)) (wrapping_difference sp 1) (ret / 256))) _ (Stopped (StackStop (wrapping_difference sp 1))) _ refl refl) refl
-
 interrupted_over : (part : Part) (other : List ℕ) (s : FlatState) (k : ℕ) (o : Outcome FlatSpace (Unit {0})) → interrupted_by part s k (over (with_image other) o) ≡ interrupted_by part s k o
 interrupted_over part other s k (Went done space) = refl
 interrupted_over part other s k (Stopped stop) = refl

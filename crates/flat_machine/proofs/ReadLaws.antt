@@ -1,6 +1,7 @@
 -- Which instructions read words of the program.
-use Rattle.std.proofs.Common.{◌≡◌, ℕ, Bool, true, false, cond, refl}
+use Rattle.std.proofs.Common.{◌≡◌, ℕ, Bool, true, false, refl}
 use Rattle.std.specs.Prelude.{None}
+use Rattle.std.proofs.lemmas.Bool.{cond_both}
 use Rattle.avr_isa.specs.declared.form.Form.{Form}
 use Rattle.avr_isa.specs.declared.form.Form.TheVariants as forms
 use Rattle.avr_exec.specs.declared.cpu.Cpu.{Cpu}
@@ -17,21 +18,13 @@ reads_program (forms.Lpm d inc) = true
 reads_program (forms.Elpm d inc) = true
 reads_program _ = false
 
-load_none : (r a : ℕ) (own : Bool) → word_asked r (cond own Nothing (Load a)) ≡ None
-load_none r a true = refl
-load_none r a false = refl
-
-store_none : (r a v : ℕ) (own : Bool) → word_asked r (cond own Nothing (Store a v)) ≡ None
-store_none r a v true = refl
-store_none r a v false = refl
-
 loads : (r a : ℕ) → word_asked r (load_of a) ≡ None
 unfolding load_of
-loads r a = load_none r a (is_core_own a)
+loads r a = cond_both (is_core_own a) Nothing (Load a) (λ ask. word_asked r ask ≡ None) (λ own. refl) (λ other. refl)
 
 stores : (r a v : ℕ) → word_asked r (store_of a v) ≡ None
 unfolding store_of
-stores r a v = store_none r a v (is_core_own a)
+stores r a v = cond_both (is_core_own a) Nothing (Store a v) (λ ask. word_asked r ask ≡ None) (λ own. refl) (λ other. refl)
 
 -- no other instruction does
 pub asks_none : (r : ℕ) (form : Form) (cpu : Cpu) → reads_program form ≡ false → word_asked r (ask_of form cpu) ≡ None

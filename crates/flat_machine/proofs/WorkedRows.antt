@@ -1,6 +1,7 @@
 -- The original program at worked programs of a few instructions: every way to end, and what the run comes to.
 use Rattle.std.proofs.Common.{◌≡◌, ℕ, List, [], ◌∷◌, slice_index, refl}
-use Rattle.avr_decode.specs.Decoding.{the_form, is_long, two_word_form, one_word_form, if_defined, defined_form, load_form, store_form, io_form, form_1001, transfer_form, register_or_pair_form, one_register_form, flag_or_plain_form, plain_form}
+use Rattle.avr_decode.specs.Decoding.{the_form, is_long, two_word_form, one_word_form, if_defined, defined_form, load_form, store_form, io_form, form_1001, transfer_form, register_or_pair_form}
+use Rattle.avr_decode.specs.Decoding.{one_register_form, flag_or_plain_form, plain_form}
 use Rattle.avr_isa.specs.UndefinedPairs.{is_undefined}
 use Rattle.avr_isa.specs.IoTable.{can_read, can_write, register_at}
 use Rattle.avr_isa.specs.Addresses.{relative}
@@ -11,7 +12,7 @@ use Rattle.avr_exec.specs.Effects.{loaded, stored, with_pointer}
 use Rattle.avr_exec.specs.Execution.{answer_of, exec_of}
 use Rattle.mote_devices.specs.declared.line.Line.{Line}
 use Rattle.mote_devices.specs.declared.line.Port.TheVariants.{PortA}
-use Rattle.base_laws.specs.Lists.{many}
+use Rattle.base.specs.Lists.{many}
 use Rattle.mote_devices.specs.Accesses.{write, read}
 use Rattle.avr_exec.specs.StackRules.{push_on, pop_from, push_return_on, pop_return_from}
 use Rattle.flat_machine.specs.FlatMachine.{Program, whole_part, End, Spent, Wild, Illegal, SelfProgram, Asleep, Halted, Io, Stack, SwapFull, Run, original, run, next_of, tried, no_pages}
@@ -45,17 +46,21 @@ worked number r = record {
 -- each row holds
 record Rows : Type 0 where
   -- LDI r16, 0x0F; OUT PORTA, r16; RJMP to itself
-  first : worked 16 (original (program 128 (0xE00F ∷ 0xBB0B ∷ 0xCFFF ∷ [])) [] 1000000) ≡ record { end = Halted 2; lines = record { port = PortA; value = 0x0F } ∷ []; steps = 2; crossings = 0; pc = 2; sp = 0; register = 0x0F }
+  first : worked 16 (original (program 128 (0xE00F ∷ 0xBB0B ∷ 0xCFFF ∷ [])) [] 1000000)
+      ≡ record { end = Halted 2; lines = record { port = PortA; value = 0x0F } ∷ []; steps = 2; crossings = 0; pc = 2; sp = 0; register = 0x0F }
   -- LDI r16, 0x0F; JMP to itself
   jumps_to_itself : worked 16 (original (program 128 (0xE00F ∷ 0x940C ∷ 0x0001 ∷ [])) [] 3) ≡ record { end = Halted 1; lines = []; steps = 1; crossings = 0; pc = 1; sp = 0; register = 0x0F }
   -- PUSH r30 at SP 0; RJMP to itself
   push_at_zero : worked 30 (original (program 128 (0x93EF ∷ 0xCFFF ∷ [])) [] 1000000) ≡ record { end = Stack 0 0; lines = []; steps = 0; crossings = 0; pc = 0; sp = 0; register = 0 }
   -- LDI r16, 0x0D; OUT SPH, r16; RCALL; RJMP to itself: the second byte would be below the window
-  call_at_the_edge : worked 16 (original (program 128 (0xE00D ∷ 0xBF0E ∷ 0xD000 ∷ 0xCFFF ∷ [])) [] 1000000) ≡ record { end = Stack 2 0x0CFF; lines = []; steps = 2; crossings = 0; pc = 2; sp = 0x0D00; register = 0x0D }
+  call_at_the_edge : worked 16 (original (program 128 (0xE00D ∷ 0xBF0E ∷ 0xD000 ∷ 0xCFFF ∷ [])) [] 1000000)
+      ≡ record { end = Stack 2 0x0CFF; lines = []; steps = 2; crossings = 0; pc = 2; sp = 0x0D00; register = 0x0D }
   -- LDI r16, 0x77; STS 0x0100, r16; LDS r17, 0x0100; OUT PORTA, r17; RJMP to itself
-  store_and_load : worked 17 (original (program 128 (0xE707 ∷ 0x9300 ∷ 0x0100 ∷ 0x9110 ∷ 0x0100 ∷ 0xBB1B ∷ 0xCFFF ∷ [])) [] 1000000) ≡ record { end = Halted 6; lines = record { port = PortA; value = 0x77 } ∷ []; steps = 4; crossings = 0; pc = 6; sp = 0; register = 0x77 }
+  store_and_load : worked 17 (original (program 128 (0xE707 ∷ 0x9300 ∷ 0x0100 ∷ 0x9110 ∷ 0x0100 ∷ 0xBB1B ∷ 0xCFFF ∷ [])) [] 1000000)
+      ≡ record { end = Halted 6; lines = record { port = PortA; value = 0x77 } ∷ []; steps = 4; crossings = 0; pc = 6; sp = 0; register = 0x77 }
   -- LDI r26, 0x00; LDI r27, 0x02; ST X+, r16; RJMP to itself, where no page may be stored to: X stays
-  no_page : worked 26 (original (program 0 (0xE0A0 ∷ 0xE0B2 ∷ 0x930D ∷ 0xCFFF ∷ [])) [] 1000000) ≡ record { end = SwapFull 2 0x0200; lines = []; steps = 2; crossings = 0; pc = 2; sp = 0; register = 0 }
+  no_page : worked 26 (original (program 0 (0xE0A0 ∷ 0xE0B2 ∷ 0x930D ∷ 0xCFFF ∷ [])) [] 1000000)
+      ≡ record { end = SwapFull 2 0x0200; lines = []; steps = 2; crossings = 0; pc = 2; sp = 0; register = 0 }
   -- SPM
   selfprogram : worked 16 (original (program 128 (0x95E8 ∷ [])) [] 1000000) ≡ record { end = SelfProgram 0; lines = []; steps = 0; crossings = 0; pc = 0; sp = 0; register = 0 }
   -- LD r26, X+, which the manual leaves undefined

@@ -21,7 +21,7 @@ use Rattle.avr_exec.specs.StackRules.{push_return_on}
 use Rattle.avr_exec.specs.Asks.{ask_of}
 use Rattle.avr_exec.specs.Execution.{exec_of, extended}
 use Rattle.mote_devices.specs.declared.line.Line.{Line}
-use Rattle.base_laws.specs.Lists.{zeros}
+use Rattle.base.specs.Lists.{zeros}
 use Rattle.mote_devices.specs.State.{State, at_reset as devices_at_reset, stored, rampz_address}
 use Rattle.mote_devices.specs.Waking.{enabled, is_enabled, with_taken, wake}
 use Rattle.flat_machine.specs.declared.part.Part.{Part}

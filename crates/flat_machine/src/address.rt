@@ -1,6 +1,7 @@
 //! The classes of data addresses.
 
 ghost use Rattle.std.specs.Prelude.{◌≡◌};
+ghost use Rattle.flat_machine.specs.Addresses.{is_stack as is_stack_test};
 ghost use Rattle.flat_machine.specs.Classes.{class_of};
 
 /// What stands at a data address of the program's machine.
@@ -27,7 +28,14 @@ pub fn class(a: u16) -> AddrClass
         0x0000..=0x001F => AddrClass::Register,
         0x005D..=0x005F => AddrClass::Cpu,
         0x0020..=0x00FF => AddrClass::Io,
-        0x0D00..=0x10FF => AddrClass::Stack,
+        _ if is_stack(a) => AddrClass::Stack,
         _ => AddrClass::Heap,
     }
+}
+
+/// Whether a data address is in the stack window.
+pub fn is_stack(a: u16) -> bool
+    ensures value { result ≡ is_stack_test a }
+{
+    0x0D00 <= a && a <= 0x10FF
 }

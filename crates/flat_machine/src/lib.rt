@@ -1,7 +1,8 @@
 //! The machine that a program believes it runs on: 64 KiB of flat data memory, and steps over it.
 //!
-//! [`class`] says what stands at each data address. A [`Part`] says which words of the image are a program's own: all,
-//! or those of one of several programs. [`foreign_word`] tells what it would read outside.
+//! [`class`] says what stands at each data address, and [`is_stack`] whether that is the stack window. A [`Part`] says which
+//! words of the image are a program's own: all, or those of one of several programs. [`foreign_word`] tells what it would
+//! read outside.
 //!
 //! The machine stands in `specs/FlatSpace` and `specs/FlatMachine`, in plain lists and numbers: its memory, one step,
 //! and a run with its end. It reaches the devices' registers, and knows no SRAM, no swap area, no flash and no kernel.
@@ -15,5 +16,5 @@
 mod address;
 mod part;
 
-pub use address::{AddrClass, class};
+pub use address::{AddrClass, class, is_stack};
 pub use part::{Part, foreign_word};

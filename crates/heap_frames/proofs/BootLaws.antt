@@ -2,7 +2,7 @@
 use Rattle.std.proofs.Common.{◌≡◌, ℕ, ◌+◌, ◌/◌, ◌%◌, ◌<◌, ◌≤◌, List, arith, ap, ◌∙◌, refl, inl, inr}
 use Rattle.std.specs.Prelude.{Bool, true, false, not, ◌==◌, replicate, None}
 use Rattle.std.proofs.lemmas.Bool.{false_from_ne_true}
-use Rattle.base_laws.specs.Lists.{many}
+use Rattle.base.specs.Lists.{many}
 use Rattle.sram_layout.specs.Cells.{frame_cell, victim_cell, given_cell, no_slot}
 use Rattle.sram_layout.specs.Boot.{at_boot}
 use Rattle.sram_layout.proofs.BootLaws.{length-at_boot, boot_slot, boot_zero}

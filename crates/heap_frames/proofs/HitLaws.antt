@@ -1,6 +1,7 @@
 -- A load and a store of a byte whose page is in a frame: no page moves.
-use Rattle.std.proofs.Common.{◌≡◌, ℕ, ◌+◌, ◌/◌, ◌%◌, Bool, true, false, List, refl, ap, subst, ◌∙◌}
+use Rattle.std.proofs.Common.{◌≡◌, ℕ, ◌+◌, ◌/◌, ◌%◌, true, List, ap, ◌∙◌}
 use Rattle.std.specs.Prelude.{Option, Some, is_some, unwrap_or, if◌then◌else◌}
+use Rattle.std.proofs.lemmas.Bool.{cond-true}
 use Rattle.sram_layout.specs.Bytes.{byte_at}
 use Rattle.swap_store.specs.Slots.{page_in}
 use Rattle.heap_frames.specs.Frames.{clean, frame_bytes, frame_of, victim, slot_of, has_slot}
@@ -13,11 +14,7 @@ use Rattle.heap_frames.proofs.FrameLaws.{frame_holds}
 slot_of_held : (m : List ℕ) (w : List (List ℕ)) (page i : ℕ) → IsPaged m w → frame_of m page ≡ Some i → has_slot m page ≡ true
 slot_of_held m w page i paged found =
     let here = frame_holds m page i found in
-    subst (λ p. has_slot m p ≡ true) here.names (paged.backed i here.inside here.occupied)
-
-then_first : {A : Type 0} (b : Bool) (x y : A) → b ≡ true → (if b then x else y) ≡ x
-then_first true x y is = refl
-then_first false x y is = absurd (cc)
+    rw here.names at (paged.backed i here.inside here.occupied)
 
 -- the heap after the page is seated, by the frame that was found
 abbrev seated_by : List ℕ → List (List ℕ) → ℕ → Option ℕ → Store
@@ -30,7 +27,7 @@ pub load_hit : (m : List ℕ) (w : List (List ℕ)) (a i : ℕ) → IsPaged m w 
     → heap_load (store_of m w) a ≡ (byte_at m (frame_bytes i + a % 256), store_of m w)
 unfolding heap_load seated frame_for
 load_hit m w a i paged found =
-    then_first (has_slot m (a / 256)) _ _ (slot_of_held m w (a / 256) i paged found)
+    cond-true (has_slot m (a / 256)) _ _ (slot_of_held m w (a / 256) i paged found)
     ∙ ap (λ o. (byte_at (seated_by m w (a / 256) o).sram (frame_bytes (unwrap_or o (victim m)) + a % 256), seated_by m w (a / 256) o)) found
 
 pub store_hit : (m : List ℕ) (w : List (List ℕ)) (a v i : ℕ) → IsPaged m w → frame_of m (a / 256) ≡ Some i
@@ -38,5 +35,5 @@ pub store_hit : (m : List ℕ) (w : List (List ℕ)) (a v i : ℕ) → IsPaged m
 unfolding heap_store seated stored_in_frame
 store_hit m w a v i paged found =
     let page = a / 256 in
-    then_first (has_slot m page) _ _ (slot_of_held m w page i paged found)
+    cond-true (has_slot m page) _ _ (slot_of_held m w page i paged found)
     ∙ ap (λ o. Some (store_of (with_byte_in_frame (seated_by m w page o).sram (frame_for m page) page (a % 256) v) (seated_by m w page o).swap)) found

@@ -13,7 +13,7 @@ use Rattle.heap_frames.proofs.FrameLaws.{no_frame, holds_occupied, holds_page, p
 use Rattle.heap_frames.proofs.EntryLaws.{page_below, same_slot}
 use Rattle.heap_frames.proofs.HeapBytes.{byte_in_frame, byte_in_slot, byte_of_no_slot}
 use Rattle.heap_frames.proofs.MemoryLaws.{heap_below, stack_from, stack_to, page_byte, vmem_byte, same_memory}
-use Rattle.heap_frames.proofs.SeatLaws.{seated_ready, seated_slots, SameSlots}
+use Rattle.heap_frames.proofs.SeatLaws.{seated_leaves, SameSlots}
 
 -- a page without a slot is in no frame
 pub absent_without_slot : (m : List ℕ) (w : List (List ℕ)) (page : ℕ) → IsPaged m w → has_slot m page ≡ false → frame_of m page ≡ None
@@ -27,13 +27,15 @@ pub same_pages : (m n : List ℕ) → SameSlots m n → pages n ≡ pages m
 unfolding pages
 same_pages m n same = table_same 256 (has_slot n) (has_slot m) (λ p low. same_slot m n p (same.slots p low))
 
-load_there : (h : Store) (a : ℕ) → has_slot h.sram (a / 256) ≡ true → is_heap a ≡ true → IsPaged h.sram h.swap → Loaded h a (byte_at (seated h (a / 256)).sram (frame_bytes (frame_for h.sram (a / 256)) + a % 256)) (seated h (a / 256))
+load_there : (h : Store) (a : ℕ) → has_slot h.sram (a / 256) ≡ true → is_heap a ≡ true → IsPaged h.sram h.swap
+    → Loaded h a (byte_at (seated h (a / 256)).sram (frame_bytes (frame_for h.sram (a / 256)) + a % 256)) (seated h (a / 256))
 load_there h a has heap paged =
     let page = a / 256 in
     let g = seated h page in
     let i = frame_for h.sram page in
-    let ready = seated_ready h page paged heap has in
-    let same = seated_slots h page paged heap has in
+    let leaves = seated_leaves h page paged heap has in
+    let ready = leaves.0 in
+    let same = leaves.1 in
     record {
       value =
           sym (byte_in_frame g.sram g.swap page (a % 256) i (paged_frame g.sram g.swap page i ready.paged ready.here))
@@ -55,7 +57,8 @@ load_there h a has heap paged =
 
 load_idle : (h : Store) (a : ℕ) → has_slot h.sram (a / 256) ≡ false → is_heap a ≡ true → IsPaged h.sram h.swap → Loaded h a 0 h
 load_idle h a none heap paged = record {
-  value = sym (vmem_byte h.sram h.swap a (heap_below a heap) ∙ page_byte h.sram h.swap a heap ∙ byte_in_slot h.sram h.swap (a / 256) (a % 256) (absent_without_slot h.sram h.swap (a / 256) paged none) ∙ byte_of_no_slot h.sram h.swap (a / 256) (a % 256) none);
+  value = sym (vmem_byte h.sram h.swap a (heap_below a heap) ∙ page_byte h.sram h.swap a heap ∙ byte_in_slot h.sram h.swap (a / 256) (a % 256) (absent_without_slot h.sram h.swap (a / 256) paged none)
+      ∙ byte_of_no_slot h.sram h.swap (a / 256) (a % 256) none);
   memory = refl;
   paged = paged;
   pages = refl;

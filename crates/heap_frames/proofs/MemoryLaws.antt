@@ -54,7 +54,8 @@ pub record SameBytes (m n : List ℕ) (w w' : List (List ℕ)) (P : ℕ → Type
   pub window : (a : ℕ) → is_stack a ≡ true → P a → byte_at n a ≡ byte_at m a
   pub heap : (a : ℕ) → a < 65536 → is_heap a ≡ true → P a → heap_byte n w' (a / 256) (a % 256) ≡ heap_byte m w (a / 256) (a % 256)
 
-by_class : {m n : List ℕ} {w w' : List (List ℕ)} {P : ℕ → Type 0} (a : ℕ) (stack heap : Bool) → is_stack a ≡ stack → is_heap a ≡ heap → SameBytes m n w w' P → a < 65536 → P a → virtual_byte n w' a ≡ virtual_byte m w a
+by_class : {m n : List ℕ} {w w' : List (List ℕ)} {P : ℕ → Type 0} (a : ℕ) (stack heap : Bool) → is_stack a ≡ stack → is_heap a ≡ heap → SameBytes m n w w' P → a < 65536 → P a
+    → virtual_byte n w' a ≡ virtual_byte m w a
 by_class {m} {n} {w} {w'} a true heap in_stack in_heap same below p = stack_byte n w' a in_stack ∙ same.window a in_stack p ∙ sym (stack_byte m w a in_stack)
 by_class {m} {n} {w} {w'} a false true in_stack in_heap same below p = page_byte n w' a in_heap ∙ same.heap a below in_heap p ∙ sym (page_byte m w a in_heap)
 by_class {m} {n} {w} {w'} a false false in_stack in_heap same below p = no_byte n w' a in_stack in_heap ∙ sym (no_byte m w a in_stack in_heap)

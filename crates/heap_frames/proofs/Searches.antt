@@ -10,7 +10,8 @@ pub record Passes (p : ℕ → Bool) (a n i : ℕ) : Type 0 where
   pub to : i < a + n
   pub test : p i ≡ true
 
-found_at : (p : ℕ → Bool) (a n i : ℕ) (first : Bool) → p a ≡ first → cond first (Some a) (find p (range_with_len (a + 1) n)) ≡ Some i → (find p (range_with_len (a + 1) n) ≡ Some i → Passes p (a + 1) n i) → Passes p a (suc n) i
+found_at : (p : ℕ → Bool) (a n i : ℕ) (first : Bool) → p a ≡ first → cond first (Some a) (find p (range_with_len (a + 1) n)) ≡ Some i
+    → (find p (range_with_len (a + 1) n) ≡ Some i → Passes p (a + 1) n i) → Passes p a (suc n) i
 found_at p a n i true is found later =
     let here : a ≡ i = cc in
     record { from = omega arith; to = omega arith; test = rw (← here) is }
@@ -22,13 +23,10 @@ pub found_passes : (p : ℕ → Bool) (a n i : ℕ) → find p (range_with_len a
 found_passes p a zero i found = absurd (cc)
 found_passes p a (suc n) i found = found_at p a n i (p a) refl found (λ rest. found_passes p (a + 1) n i rest)
 
-missed_at : (p : ℕ → Bool) (a n i : ℕ) (first : Bool) → p a ≡ first → cond first (Some a) (find p (range_with_len (a + 1) n)) ≡ None → a ≤ i → i < a + suc n → (find p (range_with_len (a + 1) n) ≡ None → a + 1 ≤ i → p i ≡ false) → p i ≡ false
+missed_at : (p : ℕ → Bool) (a n i : ℕ) (first : Bool) → p a ≡ first → cond first (Some a) (find p (range_with_len (a + 1) n)) ≡ None → a ≤ i → i < a + suc n
+    → (find p (range_with_len (a + 1) n) ≡ None → a + 1 ≤ i → p i ≡ false) → p i ≡ false
 missed_at p a n i true is missed from to later = absurd (cc)
-missed_at p a n i false is missed from to later =
-    elim (cases_eq a i) [
-      | inl same ↦ rw (← same) is
-      | inr apart ↦ later missed (omega arith)
-    ]
+missed_at p a n i false is missed from to later = elim (cases_eq a i) [ inl same ↦ rw same at is | inr apart ↦ later missed (omega arith) ]
 
 pub missed_passes : (p : ℕ → Bool) (a n i : ℕ) → find p (range_with_len a n) ≡ None → a ≤ i → i < a + n → p i ≡ false
 missed_passes p a zero i missed from to = absurd (omega arith)
@@ -47,7 +45,8 @@ none_found p a (suc n) fail =
     rw (fail a (omega arith) (omega arith), none_found p (a + 1) n (λ i from to. fail i (omega arith) (omega arith)))
 
 -- where one alone passes, it is found
-only_case : (p : ℕ → Bool) (a n i : ℕ) (answer : Option ℕ) → find p (range_with_len a n) ≡ answer → a ≤ i → i < a + n → p i ≡ true → ((j : ℕ) → a ≤ j → j < a + n → p j ≡ true → j ≡ i) → find p (range_with_len a n) ≡ Some i
+only_case : (p : ℕ → Bool) (a n i : ℕ) (answer : Option ℕ) → find p (range_with_len a n) ≡ answer → a ≤ i → i < a + n → p i ≡ true → ((j : ℕ) → a ≤ j → j < a + n → p j ≡ true → j ≡ i)
+    → find p (range_with_len a n) ≡ Some i
 only_case p a n i None is from to passes alone = absurd (let fails = missed_passes p a n i is from to in cc)
 only_case p a n i (Some j) is from to passes alone =
     let found = found_passes p a n j is in

@@ -15,52 +15,53 @@ use Rattle.heap_frames.proofs.EntryLaws.{page_below, same_slot}
 use Rattle.heap_frames.proofs.MemoryLaws.{heap_below, stack_from, stack_to, page_byte, one_byte}
 use Rattle.heap_frames.proofs.PutLaws.{Puts, stored_entered, stored_paged, stored_resident_pages, stored_victim, stored_byte, stored_other}
 use Rattle.heap_frames.proofs.GivenLaws.{Gives}
-use Rattle.heap_frames.proofs.SeatLaws.{Ready, seated_ready, seated_slots, first_touched_ready, first_touched_slots}
+use Rattle.heap_frames.proofs.SeatLaws.{Ready, seated_leaves, first_touched_leaves}
 
 -- a byte put into a page that is ready
 putting : Store → ℕ → ℕ → ℕ → Store
 putting g i a v = record { sram = with_byte_in_frame g.sram i (a / 256) (a % 256) v; swap = g.swap }
 
-puts_there : (h g : Store) (i a : ℕ) → Ready h g (a / 256) i → Puts g.sram g.swap i (a / 256) (a % 256)
-puts_there h g i a ready = record { paged = ready.paged; here = ready.here; below = omega arith }
+puts_there : {h g : Store} {i : ℕ} (a : ℕ) → Ready h g (a / 256) i → Puts g.sram g.swap i (a / 256) (a % 256)
+puts_there a ready = record { paged = ready.paged; here = ready.here; below = omega arith }
 
-put_leaves : (h g : Store) (i a v : ℕ) → Ready h g (a / 256) i → LeavesOthers h.sram (with_byte_in_frame g.sram i (a / 256) (a % 256) v)
-put_leaves h g i a v ready =
-    record {
-      cells = λ b from below. byte_elsewhere g.sram i (a / 256) (a % 256) v b from (λ same. omega arith) (λ same. omega arith) (λ same. omega arith) ∙ ready.others.cells b from below;
-      tables = λ b above below. byte_elsewhere g.sram i (a / 256) (a % 256) v b (omega arith) (λ same. omega arith) (λ same. omega arith) (λ same. omega arith) ∙ ready.others.tables b above below;
-      window = λ b from to. byte_elsewhere g.sram i (a / 256) (a % 256) v b (omega arith) (λ same. omega arith) (λ same. omega arith) (λ same. omega arith) ∙ ready.others.window b from to;
-    }
+module _ {h g : Store} {i : ℕ} (a v : ℕ) (ready : Ready h g (a / 256) i) where
+  abbrev after : List ℕ
+  after = with_byte_in_frame g.sram i (a / 256) (a % 256) v
 
-put_memory : (h g : Store) (i a v : ℕ) → is_heap a ≡ true → Ready h g (a / 256) i → vmem (with_byte_in_frame g.sram i (a / 256) (a % 256) v) g.swap ≡ slice_set (vmem h.sram h.swap) a v
-put_memory h g i a v heap ready =
-    let n = with_byte_in_frame g.sram i (a / 256) (a % 256) v in
-    let p = puts_there h g i a ready in
-    one_byte {m = h.sram} {n = n} {w = h.swap} {w' = g.swap} a v (record {
-      window = λ b stack apart. (put_leaves h g i a v ready).window b (stack_from b stack) (stack_to b stack);
-      heap = λ b inside in_heap apart.
-          stored_other v (b / 256) (b % 256) p (omega arith) (omega arith) (λ same_page same_offset. apart (omega arith))
-          ∙ ready.bytes (b / 256) (b % 256) (omega arith) (omega arith);
-    }) (heap_below a heap) (page_byte n g.swap a heap ∙ stored_byte v p)
+  put_leaves : LeavesOthers h.sram (with_byte_in_frame g.sram i (a / 256) (a % 256) v)
+  put_leaves =
+      let elsewhere = byte_elsewhere g.sram i (a / 256) (a % 256) v in
+      record {
+        cells = λ b from below. elsewhere b from (λ same. omega arith) (λ same. omega arith) (λ same. omega arith) ∙ ready.others.cells b from below;
+        tables = λ b above below. elsewhere b (omega arith) (λ same. omega arith) (λ same. omega arith) (λ same. omega arith) ∙ ready.others.tables b above below;
+        window = λ b from to. elsewhere b (omega arith) (λ same. omega arith) (λ same. omega arith) (λ same. omega arith) ∙ ready.others.window b from to;
+      }
 
-put_takes : (h g : Store) (i a v : ℕ) → Ready h g (a / 256) i → TakesFrame h.sram (with_byte_in_frame g.sram i (a / 256) (a % 256) v) (a / 256)
-put_takes h g i a v ready =
-    let n = with_byte_in_frame g.sram i (a / 256) (a % 256) v in
-    let p = puts_there h g i a ready in
-    let s : resident_pages n ≡ resident_pages g.sram = stored_resident_pages v p in
-    let next : victim n ≡ victim g.sram = stored_victim v p in
-    let holds = ready.frames.holds in
-    record {
-      holds = (holds.0, holds.1, ap (λ (before : List (Option ℕ)). slice_index_or before holds.0 None) s ∙ holds.2);
-      stays = λ held. let stay = ready.frames.stays held in (s ∙ stay.0, next ∙ stay.1);
-      comes = λ missed. let come = ready.frames.comes missed in (s ∙ come.0, next ∙ come.1);
-    }
+  put_memory : is_heap a ≡ true → vmem (with_byte_in_frame g.sram i (a / 256) (a % 256) v) g.swap ≡ slice_set (vmem h.sram h.swap) a v
+  put_memory heap =
+      one_byte {m = h.sram} {n = after} {w = h.swap} {w' = g.swap} a v (record {
+        window = λ b stack apart. put_leaves.window b (stack_from b stack) (stack_to b stack);
+        heap = λ b inside in_heap apart.
+            stored_other v (puts_there a ready) (b / 256) (b % 256) (omega arith) (omega arith) (λ same_page same_offset. apart (omega arith))
+            ∙ ready.bytes (b / 256) (b % 256) (omega arith) (omega arith);
+      }) (heap_below a heap) (page_byte after g.swap a heap ∙ stored_byte v (puts_there a ready))
 
-put_slots : (h g : Store) (i a v p : ℕ) → Ready h g (a / 256) i → p < 256 → slot_of (with_byte_in_frame g.sram i (a / 256) (a % 256) v) p ≡ slot_of g.sram p
-put_slots h g i a v p ready low = (stored_entered v (puts_there h g i a ready)).slots p low
+  put_takes : TakesFrame h.sram (with_byte_in_frame g.sram i (a / 256) (a % 256) v) (a / 256)
+  put_takes =
+      let s : resident_pages after ≡ resident_pages g.sram = stored_resident_pages v (puts_there a ready) in
+      let next : victim after ≡ victim g.sram = stored_victim v (puts_there a ready) in
+      let holds = ready.frames.holds in
+      record {
+        holds = (holds.0, holds.1, ap (λ (before : List (Option ℕ)). slice_index_or before holds.0 None) s ∙ holds.2);
+        stays = λ held. let stay = ready.frames.stays held in (s ∙ stay.0, next ∙ stay.1);
+        comes = λ missed. let come = ready.frames.comes missed in (s ∙ come.0, next ∙ come.1);
+      }
 
-put_given : (h g : Store) (i a v : ℕ) → Ready h g (a / 256) i → given (with_byte_in_frame g.sram i (a / 256) (a % 256) v) ≡ given g.sram
-put_given h g i a v ready = (stored_entered v (puts_there h g i a ready)).same_given
+  put_slots : (p : ℕ) → p < 256 → slot_of (with_byte_in_frame g.sram i (a / 256) (a % 256) v) p ≡ slot_of g.sram p
+  put_slots = (stored_entered v (puts_there a ready)).slots
+
+  put_given : given (with_byte_in_frame g.sram i (a / 256) (a % 256) v) ≡ given g.sram
+  put_given = (stored_entered v (puts_there a ready)).same_given
 
 -- the page has a slot after, and the others as before
 put_pages : (m n : List ℕ) (page : ℕ) → page < 256 → has_slot n page ≡ true → ((p : ℕ) → p < 256 → p ≢ page → slot_of n p ≡ slot_of m p) → pages n ≡ slice_set (pages m) page true
@@ -71,49 +72,49 @@ stored_there : (h : Store) (a v : ℕ) → has_slot h.sram (a / 256) ≡ true �
 unfolding putting
 stored_there h a v has heap paged =
     let page = a / 256 in
-    let g = seated h page in
-    let i = frame_for h.sram page in
-    let n = with_byte_in_frame g.sram i page (a % 256) v in
     let low : page < 256 = page_below page heap in
-    let ready = seated_ready h page paged heap has in
-    let same = seated_slots h page paged heap has in
-    let slots = λ (p : ℕ) (below : p < 256). let all : slot_of n p ≡ slot_of h.sram p = put_slots h g i a v p ready below ∙ same.slots p below in all in
+    let leaves = seated_leaves h page paged heap has in
+    let ready = leaves.0 in
+    let same = leaves.1 in
+    let n = with_byte_in_frame (seated h page).sram (frame_for h.sram page) page (a % 256) v in
+    let slots = λ (p : ℕ) (below : p < 256). put_slots a v ready p below ∙ same.slots p below in
     record {
-      memory = put_memory h g i a v heap ready;
-      paged = stored_paged v (puts_there h g i a ready);
+      memory = put_memory a v ready heap;
+      paged = stored_paged v (puts_there a ready);
       pages = put_pages h.sram n page low (same_slot h.sram n page (slots page low) ∙ has) (λ p below apart. slots p below);
       slots = λ p below apart. slots p below;
-      kept = λ had. (slots page low, put_given h g i a v ready ∙ same.same_given);
+      kept = λ had. (slots page low, put_given a v ready ∙ same.same_given);
       next = λ none. absurd (cc);
       count = ready.count;
-      others = put_leaves h g i a v ready;
-      frames = put_takes h g i a v ready;
+      others = put_leaves a v ready;
+      frames = put_takes a v ready;
     }
 
 stored_first : (h : Store) (a v : ℕ) → Gives h.sram h.swap (a / 256) → is_heap a ≡ true → Stored h a v (putting (first_touched h (a / 256)) (victim h.sram) a v)
 unfolding putting
 stored_first h a v gives heap =
     let page = a / 256 in
-    let g = first_touched h page in
-    let i = victim h.sram in
-    let n = with_byte_in_frame g.sram i page (a % 256) v in
     let low : page < 256 = page_below page heap in
-    let ready = first_touched_ready h page gives in
-    let first = first_touched_slots h page gives in
-    let own : slot_of n page ≡ given h.sram = put_slots h g i a v page ready low ∙ first.own in
+    let leaves = first_touched_leaves h page gives in
+    let ready = leaves.0 in
+    let first = leaves.1 in
+    let n = with_byte_in_frame (first_touched h page).sram (victim h.sram) page (a % 256) v in
+    let own : slot_of n page ≡ given h.sram = put_slots a v ready page low ∙ first.own in
+    let others = λ (p : ℕ) (below : p < 256) (apart : p ≢ page). put_slots a v ready p below ∙ first.others p below apart in
     record {
-      memory = put_memory h g i a v heap ready;
-      paged = stored_paged v (puts_there h g i a ready);
-      pages = put_pages h.sram n page low (slot_held n page (λ none. omega (arith, own, gives.left, gives.paged.sized.swap.count))) (λ p below apart. put_slots h g i a v p ready below ∙ first.others p below apart);
-      slots = λ p below apart. put_slots h g i a v p ready below ∙ first.others p below apart;
+      memory = put_memory a v ready heap;
+      paged = stored_paged v (puts_there a ready);
+      pages = put_pages h.sram n page low (slot_held n page (λ none. omega (arith, own, gives.left, gives.paged.sized.swap.count))) others;
+      slots = others;
       kept = λ had. let none = gives.none in absurd (cc);
-      next = λ none. (own, put_given h g i a v ready ∙ first.more);
+      next = λ none. (own, put_given a v ready ∙ first.more);
       count = ready.count;
-      others = put_leaves h g i a v ready;
-      frames = put_takes h g i a v ready;
+      others = put_leaves a v ready;
+      frames = put_takes a v ready;
     }
 
-store_by : (h : Store) (a v : ℕ) (has left : Bool) → has_slot h.sram (a / 256) ≡ has → nat_lt (given h.sram) (length h.swap) ≡ left → is_heap a ≡ true → IsPaged h.sram h.swap → StoredOr h a v (heap_store h a v)
+store_by : (h : Store) (a v : ℕ) (has left : Bool) → has_slot h.sram (a / 256) ≡ has → nat_lt (given h.sram) (length h.swap) ≡ left → is_heap a ≡ true → IsPaged h.sram h.swap
+    → StoredOr h a v (heap_store h a v)
 unfolding heap_store putting
 store_by h a v true left is is_left heap paged = rw is (stored_there h a v is heap paged)
 store_by h a v false true is is_left heap paged =

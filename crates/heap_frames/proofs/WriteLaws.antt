@@ -15,55 +15,49 @@ pub record OutOfFrame (i b : ℕ) : Type 0 where
   pub state : b ≢ frame_cell i + 1
 
 -- a page put into a frame
-pub page_length : (m bytes : List ℕ) (i page state : ℕ) → length m ≡ byte_count → length bytes ≡ 256 → i < 8 → length (with_page_in_frame m i page bytes state) ≡ length m
-unfolding with_page_in_frame
-page_length m bytes i page state size fits inside =
-    length-with_byte (with_frame (with_block m (frame_bytes i) bytes) (frame_cell i) page state) victim_cell ((i + 1) % 8)
-    ∙ length-with_frame (with_block m (frame_bytes i) bytes) (frame_cell i) page state
-    ∙ length-with_block m bytes (frame_bytes i) fits (omega arith) (omega arith)
+module _ (m bytes : List ℕ) (i page state : ℕ) (size : length m ≡ byte_count) (fits : length bytes ≡ 256) (inside : i < 8) where
+  abbrev block : List ℕ
+  block = with_block m (frame_bytes i) bytes
 
-pub page_victim : (m bytes : List ℕ) (i page state : ℕ) → length m ≡ byte_count → length bytes ≡ 256 → i < 8 → victim (with_page_in_frame m i page bytes state) ≡ (i + 1) % 8
-unfolding with_page_in_frame
-page_victim m bytes i page state size fits inside =
-    byte_same (with_frame (with_block m (frame_bytes i) bytes) (frame_cell i) page state) victim_cell ((i + 1) % 8) (omega arith)
-    (omega (
-      arith,
-      length-with_frame (with_block m (frame_bytes i) bytes) (frame_cell i) page state,
-      length-with_block m bytes (frame_bytes i) fits (omega arith) (omega arith),
-    ))
+  long : length block ≡ length m
+  long = length-with_block m bytes (frame_bytes i) fits (omega arith) (omega arith)
 
-pub page_names : (m bytes : List ℕ) (i page state : ℕ) → length m ≡ byte_count → length bytes ≡ 256 → i < 8 → page_held (with_page_in_frame m i page bytes state) i ≡ page
-unfolding with_page_in_frame
-page_names m bytes i page state size fits inside =
-    let block = with_block m (frame_bytes i) bytes in
-    byte_other (with_frame block (frame_cell i) page state) victim_cell (frame_cell i) ((i + 1) % 8) (omega arith) (omega arith) (λ same. omega arith)
-    ∙ byte_other (with_byte block (frame_cell i) page) (frame_cell i + 1) (frame_cell i) state (omega arith) (omega arith) (λ same. omega arith)
-    ∙ byte_same block (frame_cell i) page (omega arith) (omega (arith, length-with_block m bytes (frame_bytes i) fits (omega arith) (omega arith)))
+  pub page_length : length (with_page_in_frame m i page bytes state) ≡ length m
+  unfolding with_page_in_frame
+  page_length = length-with_byte (with_frame block (frame_cell i) page state) victim_cell ((i + 1) % 8) ∙ length-with_frame block (frame_cell i) page state ∙ long
 
-pub page_state : (m bytes : List ℕ) (i page state : ℕ) → length m ≡ byte_count → length bytes ≡ 256 → i < 8 → state_of (with_page_in_frame m i page bytes state) i ≡ state
-unfolding with_page_in_frame
-page_state m bytes i page state size fits inside =
-    let block = with_block m (frame_bytes i) bytes in
-    byte_other (with_frame block (frame_cell i) page state) victim_cell (frame_cell i + 1) ((i + 1) % 8) (omega arith) (omega arith) (λ same. omega arith)
-    ∙ byte_same (with_byte block (frame_cell i) page) (frame_cell i + 1) state (omega arith) (omega (arith, length-with_byte block (frame_cell i) page, length-with_block m bytes (frame_bytes i) fits (omega arith) (omega arith)))
+  pub page_victim : victim (with_page_in_frame m i page bytes state) ≡ (i + 1) % 8
+  unfolding with_page_in_frame
+  page_victim = byte_same (with_frame block (frame_cell i) page state) victim_cell ((i + 1) % 8) (omega arith) (omega (arith, length-with_frame block (frame_cell i) page state, long))
 
-pub page_elsewhere : (m bytes : List ℕ) (i page state b : ℕ) → length m ≡ byte_count → length bytes ≡ 256 → i < 8 → 0x0100 ≤ b → OutOfFrame i b → b ≢ victim_cell → byte_at (with_page_in_frame m i page bytes state) b ≡ byte_at m b
-unfolding with_page_in_frame
-page_elsewhere m bytes i page state b size fits inside from out apart =
-    let block = with_block m (frame_bytes i) bytes in
-    byte_other (with_frame block (frame_cell i) page state) victim_cell b ((i + 1) % 8) (omega arith) from apart
-    ∙ byte_other (with_byte block (frame_cell i) page) (frame_cell i + 1) b state (omega arith) from out.state
-    ∙ byte_other block (frame_cell i) b page (omega arith) from out.page
-    ∙ byte_out_of_block m bytes (frame_bytes i) b fits (omega arith) (omega arith) from out.bytes
+  pub page_names : page_held (with_page_in_frame m i page bytes state) i ≡ page
+  unfolding with_page_in_frame
+  page_names =
+      byte_other (with_frame block (frame_cell i) page state) victim_cell (frame_cell i) ((i + 1) % 8) (omega arith) (omega arith) (λ same. omega arith)
+      ∙ byte_other (with_byte block (frame_cell i) page) (frame_cell i + 1) (frame_cell i) state (omega arith) (omega arith) (λ same. omega arith)
+      ∙ byte_same block (frame_cell i) page (omega arith) (omega (arith, long))
 
-pub page_block : (m bytes : List ℕ) (i page state : ℕ) → length m ≡ byte_count → length bytes ≡ 256 → i < 8 → block_at (with_page_in_frame m i page bytes state) (frame_bytes i) ≡ bytes
-unfolding with_page_in_frame
-page_block m bytes i page state size fits inside =
-    let block = with_block m (frame_bytes i) bytes in
-    block_out_of_byte (with_frame block (frame_cell i) page state) victim_cell (frame_bytes i) ((i + 1) % 8) (omega arith) (omega arith) (inl (omega arith))
-    ∙ block_out_of_byte (with_byte block (frame_cell i) page) (frame_cell i + 1) (frame_bytes i) state (omega arith) (omega arith) (inl (omega arith))
-    ∙ block_out_of_byte block (frame_cell i) (frame_bytes i) page (omega arith) (omega arith) (inl (omega arith))
-    ∙ block_same m bytes (frame_bytes i) fits (omega arith) (omega arith)
+  pub page_state : state_of (with_page_in_frame m i page bytes state) i ≡ state
+  unfolding with_page_in_frame
+  page_state =
+      byte_other (with_frame block (frame_cell i) page state) victim_cell (frame_cell i + 1) ((i + 1) % 8) (omega arith) (omega arith) (λ same. omega arith)
+      ∙ byte_same (with_byte block (frame_cell i) page) (frame_cell i + 1) state (omega arith) (omega (arith, length-with_byte block (frame_cell i) page, long))
+
+  pub page_elsewhere : (b : ℕ) → 0x0100 ≤ b → OutOfFrame i b → b ≢ victim_cell → byte_at (with_page_in_frame m i page bytes state) b ≡ byte_at m b
+  unfolding with_page_in_frame
+  page_elsewhere b from out apart =
+      byte_other (with_frame block (frame_cell i) page state) victim_cell b ((i + 1) % 8) (omega arith) from apart
+      ∙ byte_other (with_byte block (frame_cell i) page) (frame_cell i + 1) b state (omega arith) from out.state
+      ∙ byte_other block (frame_cell i) b page (omega arith) from out.page
+      ∙ byte_out_of_block m bytes (frame_bytes i) b fits (omega arith) (omega arith) from out.bytes
+
+  pub page_block : block_at (with_page_in_frame m i page bytes state) (frame_bytes i) ≡ bytes
+  unfolding with_page_in_frame
+  page_block =
+      block_out_of_byte (with_frame block (frame_cell i) page state) victim_cell (frame_bytes i) ((i + 1) % 8) (omega arith) (omega arith) (inl (omega arith))
+      ∙ block_out_of_byte (with_byte block (frame_cell i) page) (frame_cell i + 1) (frame_bytes i) state (omega arith) (omega arith) (inl (omega arith))
+      ∙ block_out_of_byte block (frame_cell i) (frame_bytes i) page (omega arith) (omega arith) (inl (omega arith))
+      ∙ block_same m bytes (frame_bytes i) fits (omega arith) (omega arith)
 
 -- a slot given to a page
 pub given_length : (m : List ℕ) (page : ℕ) → length (with_slot_given m page) ≡ length m
@@ -87,35 +81,35 @@ given_elsewhere m page b from apart apart' =
     ∙ byte_other m (slot_cell page) b (given m) (omega arith) from apart
 
 -- a byte of a page in a frame
-pub byte_length : (m : List ℕ) (i page offset v : ℕ) → length (with_byte_in_frame m i page offset v) ≡ length m
-unfolding with_byte_in_frame
-byte_length m i page offset v = length-with_frame (with_byte m (frame_bytes i + offset) v) (frame_cell i) page dirty ∙ length-with_byte m (frame_bytes i + offset) v
+module _ (m : List ℕ) (i page offset v : ℕ) where
+  abbrev one : List ℕ
+  one = with_byte m (frame_bytes i + offset) v
 
-pub byte_there : (m : List ℕ) (i page offset v : ℕ) → length m ≡ byte_count → i < 8 → offset < 256 → byte_at (with_byte_in_frame m i page offset v) (frame_bytes i + offset) ≡ v
-unfolding with_byte_in_frame
-byte_there m i page offset v size inside below =
-    let one = with_byte m (frame_bytes i + offset) v in
-    byte_other (with_byte one (frame_cell i) page) (frame_cell i + 1) (frame_bytes i + offset) dirty (omega arith) (omega arith) (λ same. omega arith)
-    ∙ byte_other one (frame_cell i) (frame_bytes i + offset) page (omega arith) (omega arith) (λ same. omega arith)
-    ∙ byte_same m (frame_bytes i + offset) v (omega arith) (omega arith)
+  pub byte_length : length (with_byte_in_frame m i page offset v) ≡ length m
+  unfolding with_byte_in_frame
+  byte_length = length-with_frame one (frame_cell i) page dirty ∙ length-with_byte m (frame_bytes i + offset) v
 
-pub byte_names : (m : List ℕ) (i page offset v : ℕ) → length m ≡ byte_count → i < 8 → page_held (with_byte_in_frame m i page offset v) i ≡ page
-unfolding with_byte_in_frame
-byte_names m i page offset v size inside =
-    let one = with_byte m (frame_bytes i + offset) v in
-    byte_other (with_byte one (frame_cell i) page) (frame_cell i + 1) (frame_cell i) dirty (omega arith) (omega arith) (λ same. omega arith)
-    ∙ byte_same one (frame_cell i) page (omega arith) (omega (arith, length-with_byte m (frame_bytes i + offset) v))
+  pub byte_there : length m ≡ byte_count → i < 8 → offset < 256 → byte_at (with_byte_in_frame m i page offset v) (frame_bytes i + offset) ≡ v
+  unfolding with_byte_in_frame
+  byte_there size inside below =
+      byte_other (with_byte one (frame_cell i) page) (frame_cell i + 1) (frame_bytes i + offset) dirty (omega arith) (omega arith) (λ same. omega arith)
+      ∙ byte_other one (frame_cell i) (frame_bytes i + offset) page (omega arith) (omega arith) (λ same. omega arith)
+      ∙ byte_same m (frame_bytes i + offset) v (omega arith) (omega arith)
 
-pub byte_state : (m : List ℕ) (i page offset v : ℕ) → length m ≡ byte_count → i < 8 → state_of (with_byte_in_frame m i page offset v) i ≡ dirty
-unfolding with_byte_in_frame
-byte_state m i page offset v size inside =
-    let one = with_byte m (frame_bytes i + offset) v in
-    byte_same (with_byte one (frame_cell i) page) (frame_cell i + 1) dirty (omega arith) (omega (arith, length-with_byte one (frame_cell i) page, length-with_byte m (frame_bytes i + offset) v))
+  pub byte_names : length m ≡ byte_count → i < 8 → page_held (with_byte_in_frame m i page offset v) i ≡ page
+  unfolding with_byte_in_frame
+  byte_names size inside =
+      byte_other (with_byte one (frame_cell i) page) (frame_cell i + 1) (frame_cell i) dirty (omega arith) (omega arith) (λ same. omega arith)
+      ∙ byte_same one (frame_cell i) page (omega arith) (omega (arith, length-with_byte m (frame_bytes i + offset) v))
 
-pub byte_elsewhere : (m : List ℕ) (i page offset v b : ℕ) → 0x0100 ≤ b → b ≢ frame_bytes i + offset → b ≢ frame_cell i → b ≢ frame_cell i + 1 → byte_at (with_byte_in_frame m i page offset v) b ≡ byte_at m b
-unfolding with_byte_in_frame
-byte_elsewhere m i page offset v b from apart names states =
-    let one = with_byte m (frame_bytes i + offset) v in
-    byte_other (with_byte one (frame_cell i) page) (frame_cell i + 1) b dirty (omega arith) from states
-    ∙ byte_other one (frame_cell i) b page (omega arith) from names
-    ∙ byte_other m (frame_bytes i + offset) b v (omega arith) from apart
+  pub byte_state : length m ≡ byte_count → i < 8 → state_of (with_byte_in_frame m i page offset v) i ≡ dirty
+  unfolding with_byte_in_frame
+  byte_state size inside =
+      byte_same (with_byte one (frame_cell i) page) (frame_cell i + 1) dirty (omega arith) (omega (arith, length-with_byte one (frame_cell i) page, length-with_byte m (frame_bytes i + offset) v))
+
+  pub byte_elsewhere : (b : ℕ) → 0x0100 ≤ b → b ≢ frame_bytes i + offset → b ≢ frame_cell i → b ≢ frame_cell i + 1 → byte_at (with_byte_in_frame m i page offset v) b ≡ byte_at m b
+  unfolding with_byte_in_frame
+  byte_elsewhere b from apart names states =
+      byte_other (with_byte one (frame_cell i) page) (frame_cell i + 1) b dirty (omega arith) from states
+      ∙ byte_other one (frame_cell i) b page (omega arith) from names
+      ∙ byte_other m (frame_bytes i + offset) b v (omega arith) from apart

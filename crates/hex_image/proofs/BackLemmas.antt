@@ -1,5 +1,6 @@
 -- The text of an image has that image.
-use Rattle.std.proofs.Common.{◌≡◌, ℕ, zero, suc, add-one, ◌+◌, ◌*◌, ◌/◌, ◌%◌, ◌<◌, ◌≤◌, ◌==◌, ◌^◌, true, false, List, [], ◌∷◌, ◌++◌, length, get_or, take, drop, length-drop, map, refl, sym, ap, ap₂, ◌∙◌, subst, arith, Some, None}
+use Rattle.std.proofs.Common.{◌≡◌, ℕ, zero, suc, add-one, ◌+◌, ◌*◌, ◌/◌, ◌%◌, ◌<◌, ◌≤◌, ◌==◌, ◌^◌, true, false, List, [], ◌∷◌, ◌++◌, length, get_or, take, drop, length-drop, map, refl, sym, ap, ap₂}
+use Rattle.std.proofs.Common.{◌∙◌, subst, arith, Some, None}
 use Rattle.std.specs.Prelude.{All, flat_map, is_some, nat_lt, unwrap_or}
 use Rattle.std.specs.List.{concat, enumerate_from, list_any, range_with_len}
 use Rattle.std.proofs.lemmas.Bool.Decides.{nat_tests}
@@ -8,10 +9,10 @@ use Rattle.std.proofs.lemmas.List.{append-nil, length-map, length-take, length_p
 use Rattle.std.proofs.lemmas.List.Elements.{All-drop, All-from_get_or, All-head, All-push, All-tail, All-take}
 use Rattle.std.proofs.lemmas.List.FromFn.{fill_by_all, get_or-map-range_with_len, length-enumerate_from, length-map-range_with_len, map-range_with_len_more}
 use Rattle.hex.specs.Hex.{IsBytes}
-use Rattle.line_reader.specs.Lines.{lines_of, pieces_of}
-use Rattle.line_reader.specs.Written.{fed, IsPlain}
-use Rattle.line_reader.proofs.FaultLaws.{after_both}
-use Rattle.line_reader.proofs.TextLaws.{concat-fed, lines_of-fed, pieces_of-fed}
+use Rattle.text_lines.specs.Lines.{lines_of, pieces_of}
+use Rattle.text_lines.specs.Written.{fed, IsPlain}
+use Rattle.text_lines.proofs.FaultLaws.{after_both}
+use Rattle.text_lines.proofs.TextLaws.{concat-fed, lines_of-fed, pieces_of-fed}
 use Rattle.hex_image.specs.Lines.{address_in, bytes_of, kind_in}
 use Rattle.hex_image.specs.Places.{Known, after_line, byte_at, byte_given, cells_at, extent, image_of_cells, nothing, word_of_cells}
 use Rattle.hex_image.specs.HexText.{HexText, end_line, fault_at, lines_read}
@@ -22,7 +23,7 @@ use Rattle.hex_image.proofs.PlaceLemmas.{extent-row, fault_by, fresh}
 use Rattle.hex_image.proofs.ReadingLemmas.{data_cells}
 use Rattle.hex_image.proofs.TextLemmas.{AreBefore, are_all, before_more, behind}
 use Rattle.hex_image.proofs.WrittenLemmas.{IsWritable, data_line-is, record_line-bytes, record_line-plain, record_line-sound}
-use Rattle.base_laws.proofs.ManyLaws.{length-two_each}
+use Rattle.base.proofs.ManyLaws.{length-two_each}
 
 -- ---- bytes and words
 

@@ -4,9 +4,9 @@ use Rattle.std.specs.Prelude.{◌⊎◌, take, unwrap_or}
 use Rattle.std.specs.List.{concat, range_with_len}
 use Rattle.std.proofs.lemmas.List.{take_all}
 use Rattle.std.proofs.lemmas.List.FromFn.{length-map-range_with_len}
-use Rattle.line_reader.specs.Lines.{pieces_of}
-use Rattle.line_reader.specs.Faults.{after_lines, first_fault}
-use Rattle.line_reader.proofs.FaultLaws as faults
+use Rattle.text_lines.specs.Lines.{pieces_of}
+use Rattle.text_lines.specs.Faults.{after_lines, first_fault}
+use Rattle.text_lines.proofs.FaultLaws as faults
 use Rattle.hex_image.specs.Image.{most_bytes, most_words}
 use Rattle.hex_image.specs.declared.fault.HexFault.{HexFault}
 use Rattle.hex_image.specs.declared.fault.HexError.{HexError}

@@ -11,7 +11,7 @@ use Rattle.std.proofs.lemmas.List.Sums.{AllPass-from_list_all}
 use Rattle.hex.specs.Hex.{decode_of, is_hex_digit}
 use Rattle.hex.specs.declared.error.FromHexError.{FromHexError}
 use Rattle.hex.proofs.HexLemmas.{decode_of-digits, decode_of-ok}
-use Rattle.line_reader.proofs.FaultLaws.{neither, not_found}
+use Rattle.text_lines.proofs.FaultLaws.{neither, not_found}
 use Rattle.hex_image.specs.Image.{most_bytes}
 use Rattle.hex_image.specs.Lines.{address_in, bytes_of, content_in, count_in, data_in, digits_of, kind_in, has_right_count}
 use Rattle.hex_image.specs.Places.{Cell, Known, byte_given, cells_at, extent}

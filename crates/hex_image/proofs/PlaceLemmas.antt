@@ -1,5 +1,6 @@
 -- Bytes at their places.
-use Rattle.std.proofs.Common.{◌≡◌, ◌≢◌, ℕ, suc, zero, ◌+◌, ◌<◌, ◌≤◌, ◌==◌, max, cond, true, false, Bool, ◌||◌, List, [], ◌∷◌, ◌++◌, length, get_or, take, refl, sym, ap, ◌∙◌, arith, inl, inr, Some, None, Option}
+use Rattle.std.proofs.Common.{◌≡◌, ◌≢◌, ℕ, suc, zero, ◌+◌, ◌<◌, ◌≤◌, ◌==◌, max, cond, true, false, Bool, ◌||◌, List, [], ◌∷◌, ◌++◌, length, get_or, take, refl, sym, ap, ◌∙◌, arith, inl, inr, Some}
+use Rattle.std.proofs.Common.{None, Option}
 use Rattle.std.specs.Prelude.{nat_lt, is_some, ◌⊎◌}
 use Rattle.std.specs.Option.{option_or}
 use Rattle.std.specs.List.{enumerate_from, list_any, range_with_len}
@@ -12,7 +13,7 @@ use Rattle.hex_image.specs.Image.{most_bytes}
 use Rattle.hex_image.specs.declared.fault.HexFault.TheVariants.{Wrap, Twice, TooLarge}
 use Rattle.hex_image.specs.Places.{Cell, byte_given, extent}
 use Rattle.hex_image.specs.Reading.{AreSlots, place_fault}
-use Rattle.base_laws.proofs.Ranges.{range_with_len-push}
+use Rattle.base.proofs.Ranges.{range_with_len-push}
 
 -- none of some places and not the next
 pub any_more : (test : ℕ → Bool) (a n : ℕ) → list_any test (range_with_len a n) ≡ false → test (a + n) ≡ false → list_any test (range_with_len a (suc n)) ≡ false

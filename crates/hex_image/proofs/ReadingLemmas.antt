@@ -3,7 +3,7 @@ use Rattle.std.proofs.Common.{◌≡◌, ◌≢◌, ℕ, ◌+◌, ◌*◌, ◌==
 use Rattle.std.specs.Prelude.{is_some}
 use Rattle.std.specs.List.{enumerate_from, list_any, range_with_len}
 use Rattle.std.proofs.lemmas.List.{append-nil}
-use Rattle.line_reader.proofs.FaultLaws.{not_found}
+use Rattle.text_lines.proofs.FaultLaws.{not_found}
 use Rattle.hex_image.specs.declared.fault.HexFault.{HexFault}
 use Rattle.hex_image.specs.declared.reading.Reading.{Reading}
 use Rattle.hex_image.specs.Lines.{address_in, base_behind, bytes_of, content_in, data_in, is_end, kind_in, word_in}

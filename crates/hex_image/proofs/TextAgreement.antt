@@ -6,9 +6,9 @@ use Rattle.std.proofs.lemmas.Bool.{cases_lt, eqb-true, false_from_ne_true}
 use Rattle.std.proofs.lemmas.Grind.{flat_map-append}
 use Rattle.std.proofs.lemmas.List.{append-nil, append_assoc, get_or-append_right, get_or_append_left, get_or_at, get_or_default, length-append}
 use Rattle.std.proofs.lemmas.List.Elements.{All-nil, All-push}
-use Rattle.line_reader.specs.Lines.{lines_of, pieces_of}
-use Rattle.line_reader.specs.Faults.{after_lines, first_fault}
-use Rattle.line_reader.proofs.FaultLaws.{after_both, fault_behind}
+use Rattle.text_lines.specs.Lines.{lines_of, pieces_of}
+use Rattle.text_lines.specs.Faults.{after_lines, first_fault}
+use Rattle.text_lines.proofs.FaultLaws.{after_both, fault_behind}
 use Rattle.hex_image.specs.declared.fault.HexFault.{HexFault}
 use Rattle.hex_image.specs.declared.fault.HexFault.TheVariants.{NoEnd}
 use Rattle.hex_image.specs.Lines.{address_in, base_behind, bytes_of, content_in, data_in, is_end, kind_in, word_in}

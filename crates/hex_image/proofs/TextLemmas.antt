@@ -1,15 +1,16 @@
 -- Reading the lines of a text.
-use Rattle.std.proofs.Common.{◌≡◌, ◌≢◌, ℕ, zero, suc, ◌+◌, ◌-◌, add-one, ◌≤◌, true, false, not, cond, List, [], ◌∷◌, ◌++◌, length, take, drop, refl, sym, ap, ◌∙◌, subst, arith, Bool, Option, Some, None}
+use Rattle.std.proofs.Common.{◌≡◌, ◌≢◌, ℕ, zero, suc, ◌+◌, ◌-◌, add-one, ◌≤◌, true, false, not, cond, List, [], ◌∷◌, ◌++◌, length, take, drop, refl, sym, ap, ◌∙◌, subst, arith, Bool, Option, Some}
+use Rattle.std.proofs.Common.{None}
 use Rattle.std.specs.Option.{option_or}
 use Rattle.std.specs.List.{concat, list_any, position_or_len}
 use Rattle.std.proofs.lemmas.Bool.{or_parts}
 use Rattle.std.proofs.lemmas.List.{append-nil, append_assoc, length-append, length_push, take_at}
 use Rattle.std.proofs.lemmas.List.Folds.{concat-append, list_any-append}
-use Rattle.line_reader.specs.Lines.{lines_of, pieces_of}
-use Rattle.line_reader.specs.Cutting.{IsCut}
-use Rattle.line_reader.specs.Faults.{after_lines, first_fault}
-use Rattle.line_reader.proofs.FaultLaws.{after_both, fault_here, none_more}
-use Rattle.line_reader.proofs.TextLaws.{lines_cut}
+use Rattle.text_lines.specs.Lines.{lines_of, pieces_of}
+use Rattle.text_lines.specs.Cutting.{IsCut}
+use Rattle.text_lines.specs.Faults.{after_lines, first_fault}
+use Rattle.text_lines.proofs.FaultLaws.{after_both, fault_here, none_more}
+use Rattle.text_lines.proofs.TextLaws.{lines_cut}
 use Rattle.hex_image.specs.declared.fault.HexFault.{HexFault}
 use Rattle.hex_image.specs.declared.fault.HexFault.TheVariants.{NoEnd}
 use Rattle.hex_image.specs.Lines.{is_end}

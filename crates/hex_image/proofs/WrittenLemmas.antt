@@ -1,5 +1,6 @@
 -- What is written is read back, line by line.
-use Rattle.std.proofs.Common.{◌≡◌, ℕ, zero, suc, ◌+◌, ◌-◌, ◌/◌, ◌%◌, ◌<◌, ◌==◌, nat_lt, not, ◌||◌, true, false, cond, Bool, List, [], ◌∷◌, ◌++◌, length, get_or, take, sum, refl, sym, ap, ◌∙◌, arith, None, Ok, Result}
+use Rattle.std.proofs.Common.{◌≡◌, ℕ, zero, suc, ◌+◌, ◌-◌, ◌/◌, ◌%◌, ◌<◌, ◌==◌, nat_lt, not, ◌||◌, true, false, cond, Bool, List, [], ◌∷◌, ◌++◌, length, get_or, take, sum, refl, sym, ap, ◌∙◌, arith}
+use Rattle.std.proofs.Common.{None, Ok, Result}
 use Rattle.std.specs.Prelude.{◌≢◌}
 use Rattle.std.specs.List.{AllPass}
 use Rattle.std.specs.Result.{result_unwrap_or}
@@ -10,8 +11,8 @@ use Rattle.std.proofs.lemmas.List.Sums.{sum_by-append}
 use Rattle.hex.specs.Hex.{IsBytes, decode_of, encode_upper, is_hex_digit}
 use Rattle.hex.specs.declared.error.FromHexError.{FromHexError}
 use Rattle.hex.proofs.HexLemmas.{decode_of-encode_upper, decode_of-ok}
-use Rattle.line_reader.specs.Cutting.{Lacks}
-use Rattle.line_reader.specs.Written.{IsPlain}
+use Rattle.text_lines.specs.Cutting.{Lacks}
+use Rattle.text_lines.specs.Written.{IsPlain}
 use Rattle.hex_image.specs.Lines.{address_in, bytes_of, content_in, has_right_count, kind_in}
 use Rattle.hex_image.specs.Written.{checksum_of, fields_of, record_bytes, record_line}
 use Rattle.hex_image.specs.Reading.{IsData, fault_in, own_fault}

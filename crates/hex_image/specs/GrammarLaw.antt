@@ -3,7 +3,7 @@
 use Rattle.std.specs.Prelude.{◌≡◌, ◌≢◌, ◌⊎◌, ◌↔◌, ℕ, ◌+◌, ◌*◌, ◌%◌, ◌≤◌, ◌==◌, true, if◌then◌else◌, List, [], ◌∷◌, ◌++◌, length, take, sum, flat_map, unwrap_or, All, AllPairs, Some, None, Ok}
 use Rattle.std.specs.List.{concat, last_or}
 use Rattle.hex.specs.Hex.{decode_of}
-use Rattle.line_reader.specs.Lines.{lines_of, pieces_of}
+use Rattle.text_lines.specs.Lines.{lines_of, pieces_of}
 use Rattle.hex_image.specs.Image.{most_bytes}
 use Rattle.hex_image.specs.declared.fault.HexFault.{HexFault}
 use Rattle.hex_image.specs.declared.fault.HexFault.TheVariants.{NoEnd}

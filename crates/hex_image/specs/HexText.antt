@@ -3,8 +3,8 @@ use Rattle.std.specs.Prelude.{◌≡◌, ◌≢◌, ℕ, ◌+◌, ◌*◌, ◌%�
 use Rattle.std.specs.List.{concat, list_all, list_any, position_or_len}
 use Rattle.std.specs.Option.{option_or}
 use Rattle.hex.specs.Hex.{is_hex_digit}
-use Rattle.line_reader.specs.Lines.{lines_of, pieces_of}
-use Rattle.line_reader.specs.Faults.{after_lines, first_fault}
+use Rattle.text_lines.specs.Lines.{lines_of, pieces_of}
+use Rattle.text_lines.specs.Faults.{after_lines, first_fault}
 use Rattle.hex_image.specs.Image.{most_bytes}
 use Rattle.hex_image.specs.declared.fault.HexFault.{HexFault}
 use Rattle.hex_image.specs.declared.fault.HexFault.TheVariants.{Start, Digit, Length, Checksum, Kind, Wrap, Twice, TooLarge, NoEnd}

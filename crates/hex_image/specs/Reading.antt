@@ -1,9 +1,10 @@
 -- Serves private functions: what the functions that read a text say of one another.
-use Rattle.std.specs.Prelude.{◌≡◌, ◌≢◌, ℕ, ◌+◌, ◌*◌, ◌==◌, nat_lt, Bool, true, false, not, ◌||◌, ◌%◌, if◌then◌else◌, List, [], ◌∷◌, length, slice_index_or, take, sum, find, is_some, unwrap_or, Option, Some, None, Result, Ok, Err, MatchResult}
+use Rattle.std.specs.Prelude.{◌≡◌, ◌≢◌, ℕ, ◌+◌, ◌*◌, ◌==◌, nat_lt, Bool, true, false, not, ◌||◌, ◌%◌, if◌then◌else◌, List, [], ◌∷◌, length, slice_index_or, take, sum, find, is_some, unwrap_or, Option}
+use Rattle.std.specs.Prelude.{Some, None, Result, Ok, Err, MatchResult}
 use Rattle.std.specs.List.{concat, enumerate_from, list_any}
 use Rattle.std.specs.Global.{Vec}
-use Rattle.line_reader.specs.Lines.{pieces_of}
-use Rattle.line_reader.specs.Faults.{after_lines}
+use Rattle.text_lines.specs.Lines.{pieces_of}
+use Rattle.text_lines.specs.Faults.{after_lines}
 use Rattle.hex_image.specs.Image.{most_bytes}
 use Rattle.hex_image.specs.declared.fault.HexFault.{HexFault}
 use Rattle.hex_image.specs.declared.fault.HexFault.TheVariants.{Start, Digit, Length, Checksum, Kind, Wrap, Twice, TooLarge}

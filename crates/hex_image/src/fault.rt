@@ -3,7 +3,7 @@
 use thiserror::Error;
 
 /// A fault of a line. A line's faults are tried in this order, and the first is reported.
-#[derive(Clone, Copy, Debug, PartialEq, Eq, Error)]
+#[derive(Clone, Copy, Debug, Error)]
 pub enum HexFault {
     /// The line doesn't begin with a colon.
     #[error("start")]
@@ -35,12 +35,10 @@ pub enum HexFault {
 }
 
 /// Why a text was not read.
-#[derive(Clone, Copy, Debug, PartialEq, Eq, Error)]
+#[derive(Clone, Copy, Debug)]
 pub enum HexError {
     /// The first faulty line, counted from 1, and the first of its faults.
-    #[error("bad hex line {line} {fault}")]
     Bad { line: u32, fault: HexFault },
     /// Memory was wanted and not found.
-    #[error("no memory")]
     NoMemory,
 }

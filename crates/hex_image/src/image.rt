@@ -2,7 +2,7 @@
 ghost use Rattle.std.specs.Prelude.{◌≡◌, ◌≤◌, ◌<◌, ℕ, List, length, IfOk, OnErr, slice_index_or};
 ghost use Rattle.hex_image.specs.Image.{IsImage, most_words};
 
-use no_memory::NoMemory;
+use base::NoMemory;
 use std::alloc::Global;
 use std::marker::Model;
 

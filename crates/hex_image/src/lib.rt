@@ -8,7 +8,7 @@
 //!
 //! [`read`] gives the image of a text and the position behind its end record's line, or the first faulty
 //! line and the first of its faults; [`write`] gives the text of an image. Which lines a text has, and which
-//! of them is the first that has a fault, is said by `line_reader`; what one line says by
+//! of them is the first that has a fault, is said by `text_lines`; what one line says by
 //! `specs/Lines.antt`, where the bytes of lines stand by `specs/Places.antt`, and which faults a line has
 //! behind others, and which texts an image, by `specs/HexText.antt`. As the code does, these go line by
 //! line, with a running base. [`grammar`] is the law that they say what the format says of all lines at once

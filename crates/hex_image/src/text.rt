@@ -12,8 +12,8 @@ use crate::image::Image;
 use crate::line::judge;
 use crate::places::byte_or_blank;
 use crate::reading::{Reading, Refusal, Step};
-use line_reader::first_line;
 use std::alloc::{AllocError, Global};
+use text_lines::first_line;
 
 /// Reads the image of a text, and where the text behind the end record's line begins.
 pub fn read(alloc: Global, text: &[u8]) -> Result<(Image, usize), HexError>

@@ -3,15 +3,16 @@ ghost use Rattle.std.specs.Prelude.{◌≡◌, ◌≤◌, ◌*◌, ◌++◌, tak
 ghost use Rattle.hex_image.specs.Image.{most_words};
 ghost use Rattle.hex_image.specs.HexText.{HexText};
 ghost use Rattle.hex_image.specs.Kinds.{code_of};
-ghost use Rattle.line_reader.specs.Written.{fed};
+ghost use Rattle.text_lines.specs.Written.{fed};
 ghost use Rattle.hex_image.specs.Written.{bytes_of_words, fields_of, record_bytes, record_line, written};
 
 use crate::image::Image;
 use crate::kind::Kind;
 use crate::line::byte_sum;
 use arrayvec::ArrayVec;
-use no_memory::NoMemory;
+use base::NoMemory;
 use std::alloc::{AllocError, Global};
+use text_lines::push_coded;
 
 /// The most bytes of a record that is written: 16 of content, and 5 beside it.
 const MOST_BYTES: usize = 21;
@@ -83,11 +84,7 @@ fn push_line(
     ensures line { OnOk result (text.new.items ≡ text.old.items ++ fed (record_line (code_of kind) address content.now)) }
 {
     let bytes = record_bytes(kind, address, content);
-    let digits = hex::encode_upper(alloc, bytes.as_slice())?;
-    text.push(b':')?;
-    text.extend_from_slice(digits.as_bytes())?;
-    text.push(b'\n')?;
-    Ok(())
+    push_coded(alloc, text, b":", bytes.as_slice())
 }
 
 /// The bytes of a record, with its checksum.

@@ -1,5 +1,5 @@
 -- The way through an inline template behind its first step: inside the window to the word behind it, and outside to MEM.
-use Rattle.std.proofs.Common.{◌≡◌, ℕ, ◌+◌, ◌-◌, ◌<◌, ◌≤◌, List, ◌∷◌, ◌++◌, length, arith, refl, subst}
+use Rattle.std.proofs.Common.{◌≡◌, ℕ, ◌+◌, ◌-◌, ◌<◌, ◌≤◌, List, ◌∷◌, ◌++◌, length, arith, refl}
 use Rattle.std.specs.Prelude.{slice_index, pos}
 use Rattle.avr_isa.specs.declared.form.Form.{Form}
 use Rattle.avr_isa.specs.declared.form.Form.TheVariants.{Rjmp, Call}
@@ -25,70 +25,69 @@ pointing m low high s pc = held m (with_halves m.cpu.r low high) s pc (saved_of 
 abbrev pub guarded_status : (s high : ℕ) → ℕ
 guarded_status s high = compared (compared s high 13) high 17
 
--- inside: the address, at the guard at w, is in the window; the access leads to e, with these registers and bytes
-pub inside_way : (m : Mote) (v size w e low high s : ℕ) (r : List ℕ) (x y s' : ℕ) (sram : List ℕ) (i j n k t : ℕ) (rest guards ends : List Form) → CanPass m v → 13 ≤ high → high < 17
-    → slice_index r 30 ≡ slice_index m.cpu.r 30 → slice_index r 31 ≡ slice_index m.cpu.r 31 → 31 < length r → Holds (slice_index m.cpu.r 30) (slice_index m.cpu.r 31) m.cpu.sreg sram
-    → v + 7 ≤ w → w + 4 ≤ e → e + 8 ≤ v + size → size ≤ 39 → t ≤ 16
-    → Row m.flash.words v (save ++ rest) → Row m.flash.words w (guard n k ++ guards) → Row m.flash.words e (restore ++ Rjmp (pos t) ∷ ends)
-    → Passes (v + 1) (v + size) i (prepared m v) (pointing m low high s w)
-    → Passes (v + 1) (v + size) j (pointing m low high (guarded_status s high) (w + 1 + 1 + 1 + 1)) (held m (with_halves r x y) s' e sram)
-    → Passes (v + 1) (v + size) (3 + (i + (4 + (j + 5)))) (begun m v) (held m r m.cpu.sreg (e + 2 + 1 + 2 + 2 + 1 + t) sram)
-inside_way m v size w e low high s r x y s' sram i j n k t rest guards ends can bottom top low_same high_same long holds after_save after_guard in_size few near saves guarding ending points accesses =
-    let from = v + 1 in
-    let to = v + size in
-    let a = slice_index m.cpu.r 30 in
-    let b = slice_index m.cpu.r 31 in
-    let one = save_block m from to m.cpu.r m.cpu.sreg v m.sram a b rest can.registers refl (omega arith) (omega arith) (omega arith) saves in
-    let three = guard_block m from to m.cpu.r low high s w (saved_of m) n k guards can.registers bottom top (omega arith) (omega arith) (omega arith) guarding in
-    let five = over_block m from to r x y s' e sram a b m.cpu.sreg t ends long low_same high_same holds (omega arith) (omega arith) (omega arith) ending in
-    let c5 = held m r m.cpu.sreg (e + 2 + 1 + 2 + 2 + 1 + t) sram in
-    let c3 = pointing m low high (guarded_status s high) (w + 1 + 1 + 1 + 1) in
-    passes_join from to 3 (i + (4 + (j + 5))) (begun m v) (prepared m v) c5 one
-    (passes_join from to i (4 + (j + 5)) (prepared m v) (pointing m low high s w) c5 points
-    (passes_join from to 4 (j + 5) (pointing m low high s w) c3 c5 three
-    (passes_join from to j 5 c3 (held m (with_halves r x y) s' e sram) c5 accesses five)))
+-- A template of `size` words at v: the saving; i steps that leave the address in Z, and s in SREG; at w the guard; and
+-- behind the k words that it passes over, the trap.
+pub record IsGuarded (m : Mote) (v size w k i low high s : ℕ) : Type 0 where
+  pub can : CanPass m v
+  pub after_save : v + 7 ≤ w
+  pub fits : w + 4 + k + 10 ≡ v + size
+  pub few : size ≤ 39
+  pub rest : List Form
+  pub saves : Row m.flash.words v (save ++ rest)
+  pub guards : List Form
+  pub guarding : Row m.flash.words w (guard (2 + k) k ++ guards)
+  pub ends : List Form
+  pub trapping : Row m.flash.words (w + 4 + k) (restore ++ Call mem_entry ∷ ends)
+  pub points : Passes (v + 1) (v + size) i (prepared m v) (pointing m low high s w)
 
--- below the window, and above it: the trap at t
-pub below_way : (m : Mote) (v size w low high s i n k t : ℕ) (rest guards ends : List Form) → CanPass m v → high < 13 → v + 7 ≤ w → w + 4 ≤ t → t + 8 ≤ v + size → size ≤ 39 → w + 1 + 1 + n ≡ t
-    → Row m.flash.words v (save ++ rest) → Row m.flash.words w (guard n k ++ guards) → Row m.flash.words t (restore ++ Call mem_entry ∷ ends)
-    → Passes (v + 1) (v + size) i (prepared m v) (pointing m low high s w)
-    → Passes (v + 1) (v + size) (3 + (i + (2 + 5))) (begun m v) (trapped m (t + 2 + 1 + 2 + 2 + 2) (saved_of m))
-below_way m v size w low high s i n k t rest guards ends can under after_save after_guard in_size few there saves guarding ending points =
-    let from = v + 1 in
-    let to = v + size in
-    let a = slice_index m.cpu.r 30 in
-    let b = slice_index m.cpu.r 31 in
-    let s1 = compared s high 13 in
-    let one = save_block m from to m.cpu.r m.cpu.sreg v m.sram a b rest can.registers refl (omega arith) (omega arith) (omega arith) saves in
-    let P : ℕ → Type 0 = λ pc. Passes from to 2 (pointing m low high s w) (pointing m low high s1 pc) in
-    let three = subst P there (below_block m from to m.cpu.r low high s w (saved_of m) n k guards can.registers under (omega arith) (omega arith) (omega arith) guarding) in
-    let four = trap_block m from to m.cpu.r low high s1 t (saved_of m) a b m.cpu.sreg ends can.registers refl refl (saved_holds m.sram a b m.cpu.sreg can.size) can.top (omega arith) (omega arith) (omega arith) ending in
-    let c4 = trapped m (t + 2 + 1 + 2 + 2 + 2) (saved_of m) in
-    passes_join from to 3 (i + (2 + 5)) (begun m v) (prepared m v) c4 one
-    (passes_join from to i (2 + 5) (prepared m v) (pointing m low high s w) c4 points
-    (passes_join from to 2 5 (pointing m low high s w) (pointing m low high s1 t) c4 three four))
+module _ (m : Mote) (v size w k i low high s : ℕ) (g : IsGuarded m v size w k i low high s) where
+  -- on from the guard
+  from_guard : (j : ℕ) (last : Mote) → Passes (v + 1) (v + size) j (pointing m low high s w) last → Passes (v + 1) (v + size) (3 + (i + j)) (begun m v) last
+  from_guard j last on =
+      let b = slice_index m.cpu.r 31 in
+      let saves = save_block m (v + 1) (v + size) m.cpu.r g.can.registers m.cpu.sreg v m.sram (slice_index m.cpu.r 30) b g.rest refl (omega arith) (omega arith) (omega arith) g.saves in
+      passes_join (v + 1) (v + size) 3 (i + j) (begun m v) (prepared m v) last saves (passes_join (v + 1) (v + size) i j (prepared m v) (pointing m low high s w) last g.points on)
 
-pub above_way : (m : Mote) (v size w low high s i n k t : ℕ) (rest guards ends : List Form) → CanPass m v → 17 ≤ high → v + 7 ≤ w → w + 4 ≤ t → t + 8 ≤ v + size → size ≤ 39 → w + 1 + 1 + 1 + 1 + k ≡ t
-    → Row m.flash.words v (save ++ rest) → Row m.flash.words w (guard n k ++ guards) → Row m.flash.words t (restore ++ Call mem_entry ∷ ends)
-    → Passes (v + 1) (v + size) i (prepared m v) (pointing m low high s w)
-    → Passes (v + 1) (v + size) (3 + (i + (4 + 5))) (begun m v) (trapped m (t + 2 + 1 + 2 + 2 + 2) (saved_of m))
-above_way m v size w low high s i n k t rest guards ends can over after_save after_guard in_size few there saves guarding ending points =
-    let from = v + 1 in
-    let to = v + size in
-    let a = slice_index m.cpu.r 30 in
-    let b = slice_index m.cpu.r 31 in
-    let s2 = guarded_status s high in
-    let one = save_block m from to m.cpu.r m.cpu.sreg v m.sram a b rest can.registers refl (omega arith) (omega arith) (omega arith) saves in
-    let P : ℕ → Type 0 = λ pc. Passes from to 4 (pointing m low high s w) (pointing m low high s2 pc) in
-    let three = subst P there (above_block m from to m.cpu.r low high s w (saved_of m) n k guards can.registers over (omega arith) (omega arith) (omega arith) guarding) in
-    let four = trap_block m from to m.cpu.r low high s2 t (saved_of m) a b m.cpu.sreg ends can.registers refl refl (saved_holds m.sram a b m.cpu.sreg can.size) can.top (omega arith) (omega arith) (omega arith) ending in
-    let c4 = trapped m (t + 2 + 1 + 2 + 2 + 2) (saved_of m) in
-    passes_join from to 3 (i + (4 + 5)) (begun m v) (prepared m v) c4 one
-    (passes_join from to i (4 + 5) (prepared m v) (pointing m low high s w) c4 points
-    (passes_join from to 4 5 (pointing m low high s w) (pointing m low high s2 t) c4 three four))
+  -- inside: the access leads to e, with these registers and bytes; what stands there leads over the trap
+  pub inside_way : (e j : ℕ) (r : List ℕ) (x y s' : ℕ) (sram : List ℕ) (ends : List Form) → 13 ≤ high → high < 17
+      → 31 < length r → slice_index r 30 ≡ slice_index m.cpu.r 30 → slice_index r 31 ≡ slice_index m.cpu.r 31 → Holds (slice_index m.cpu.r 30) (slice_index m.cpu.r 31) m.cpu.sreg sram
+      → w + 4 ≤ e → e + 18 ≡ v + size → Row m.flash.words e (restore ++ Rjmp (pos 10) ∷ ends)
+      → Passes (v + 1) (v + size) j (pointing m low high (guarded_status s high) (w + 1 + 1 + 1 + 1)) (held m (with_halves r x y) s' e sram)
+      → Passes (v + 1) (v + size) (3 + (i + (4 + (j + 5)))) (begun m v) (held m r m.cpu.sreg (v + size) sram)
+  inside_way e j r x y s' sram ends bottom top long low_same high_same holds behind is ending accesses =
+      let from = v + 1 in
+      let to = v + size in
+      let there : e + 2 + 1 + 2 + 2 + 1 + 10 ≡ v + size = omega arith in
+      let last = held m r m.cpu.sreg (v + size) sram in
+      let access = pointing m low high (guarded_status s high) (w + 1 + 1 + 1 + 1) in
+      let guards = guard_block m from to m.cpu.r g.can.registers low high s w (saved_of m) (2 + k) k g.guards bottom top (omega arith) (omega arith) (omega arith) g.guarding in
+      let over = over_block m from to r long x y s' e sram (slice_index m.cpu.r 30) (slice_index m.cpu.r 31) m.cpu.sreg 10 ends low_same high_same holds (omega arith) (omega arith)
+      (omega arith) ending in
+      from_guard (4 + (j + 5)) last (passes_join from to 4 (j + 5) (pointing m low high s w) access last guards
+      (passes_join from to j 5 access (held m (with_halves r x y) s' e sram) last accesses (rw there at over)))
 
--- the trap's last word is the one before the template's end
-pub at_trap : (m : Mote) (v size n back : ℕ) → size ≡ back + 1 → Passes (v + 1) (v + size) n (begun m v) (trapped m (v + back) (saved_of m)) → Passes (v + 1) (v + size) n (begun m v) (trapped m (v + size - 1) (saved_of m))
-at_trap m v size n back is passes =
-    let P : ℕ → Type 0 = λ pc. Passes (v + 1) (v + size) n (begun m v) (trapped m pc (saved_of m)) in
-    subst P (omega arith) passes
+  -- outside: the guard leads to the trap, with this SREG
+  to_trap : (j s' : ℕ) → Passes (v + 1) (v + size) j (pointing m low high s w) (pointing m low high s' (w + 4 + k))
+      → Passes (v + 1) (v + size) (3 + (i + (j + 5))) (begun m v) (trapped m (v + size - 1) (saved_of m))
+  to_trap j s' on =
+      let t = w + 4 + k in
+      let a = slice_index m.cpu.r 30 in
+      let b = slice_index m.cpu.r 31 in
+      let there : t + 2 + 1 + 2 + 2 + 2 ≡ v + size - 1 = omega arith in
+      let last = trapped m (v + size - 1) (saved_of m) in
+      let holds = saved_holds m.sram a b m.cpu.sreg g.can.size in
+      let traps = trap_block m (v + 1) (v + size) m.cpu.r g.can.registers low high s' t (saved_of m) a b m.cpu.sreg g.ends refl refl holds g.can.top (omega arith) (omega arith)
+      (omega arith) g.trapping in
+      from_guard (j + 5) last (passes_join (v + 1) (v + size) j 5 (pointing m low high s w) (pointing m low high s' t) last on (rw there at traps))
+
+  pub below_way : high < 13 → Passes (v + 1) (v + size) (3 + (i + (2 + 5))) (begun m v) (trapped m (v + size - 1) (saved_of m))
+  below_way under =
+      let there : w + 1 + 1 + (2 + k) ≡ w + 4 + k = omega arith in
+      to_trap 2 (compared s high 13) (rw there at (below_block m (v + 1) (v + size) m.cpu.r g.can.registers low high s w (saved_of m) (2 + k) k g.guards under (omega arith) (omega arith)
+      (omega arith) g.guarding))
+
+  pub above_way : 17 ≤ high → Passes (v + 1) (v + size) (3 + (i + (4 + 5))) (begun m v) (trapped m (v + size - 1) (saved_of m))
+  above_way over =
+      let there : w + 1 + 1 + 1 + 1 + k ≡ w + 4 + k = omega arith in
+      to_trap 4 (guarded_status s high) (rw there at (above_block m (v + 1) (v + size) m.cpu.r g.can.registers low high s w (saved_of m) (2 + k) k g.guards over (omega arith) (omega arith)
+      (omega arith) g.guarding))

@@ -8,10 +8,10 @@ use Rattle.std.proofs.lemmas.Bool.{and_parts, eqb-true}
 use Rattle.std.proofs.lemmas.Bool.Decides.{nat_tests}
 use Rattle.std.proofs.lemmas.Int.Digits.{digits_value-lt}
 use Rattle.std.proofs.Math.Nat.{pow-le-pow_left, pow-le-pow_right}
-use Rattle.line_reader.specs.Cutting.{Lacks}
-use Rattle.line_reader.specs.Stripping.{stripped}
-use Rattle.line_reader.proofs.DigitTests.{all_digits, digits_all, some_other}
-use Rattle.line_reader.proofs.StripLaws.{stripped_front}
+use Rattle.text_lines.specs.Cutting.{Lacks}
+use Rattle.text_lines.specs.Stripping.{stripped}
+use Rattle.text_lines.proofs.DigitTests.{all_digits, digits_all, some_other}
+use Rattle.text_lines.proofs.StripLaws.{stripped_front}
 use Rattle.input_script.specs.Grammar.{digits_in, number_of, hex_in}
 use Rattle.input_script.specs.GrammarLaw.{IsNumber, IsWritten}
 

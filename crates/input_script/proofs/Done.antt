@@ -2,9 +2,9 @@
 use Rattle.std.proofs.Common.{◌≡◌, ℕ, ◌+◌, ◌⊎◌, arith, List, [], ◌∷◌, ◌++◌, length, Result, Ok, Err, ap, ap₂, ◌∙◌, sym, refl, inl, inr}
 use Rattle.std.specs.Prelude.{IsErrAnd, Some}
 use Rattle.std.proofs.lemmas.List.{append_assoc, length_push}
-use Rattle.line_reader.specs.Lines.{lines_of}
-use Rattle.line_reader.specs.Faults.{first_fault}
-use Rattle.line_reader.proofs.FaultLaws.{after_both, fault_here, none_more}
+use Rattle.text_lines.specs.Lines.{lines_of}
+use Rattle.text_lines.specs.Faults.{first_fault}
+use Rattle.text_lines.proofs.FaultLaws.{after_both, fault_here, none_more}
 use Rattle.input_script.proofs.Judgement.{never_both, one_fault}
 use Rattle.input_script.specs.declared.fault.ScriptFault.{ScriptFault}
 use Rattle.input_script.specs.declared.fault.ScriptError.{ScriptError}

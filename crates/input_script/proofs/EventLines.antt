@@ -3,7 +3,7 @@ use Rattle.std.proofs.Common.{◌≡◌, ℕ, ◌⊎◌, eqb, false, List, [], �
 use Rattle.std.specs.Prelude.{codes, All, Option, Some, None, option_map, option_and_then}
 use Rattle.std.proofs.lemmas.List.Elements.{All-head, All-tail}
 use Rattle.std.proofs.lemmas.Bool.Decides.{nat_tests}
-use Rattle.line_reader.specs.Faults.{after_lines}
+use Rattle.text_lines.specs.Faults.{after_lines}
 use Rattle.input_script.specs.declared.input.Input.{Input}
 use Rattle.input_script.specs.declared.line.Statement.TheVariants.{At}
 use Rattle.input_script.specs.Grammar.{input_in, number_of, said_in, statement_of, words_of}

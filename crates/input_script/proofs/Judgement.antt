@@ -1,7 +1,7 @@
 -- A text schedules one thing, or has one first fault, and not both.
 use Rattle.std.proofs.Common.{◌≡◌, ℕ, List, sym, ◌∙◌}
 use Rattle.std.specs.Prelude.{Some}
-use Rattle.line_reader.proofs.FaultLaws.{same_fault, not_both}
+use Rattle.text_lines.proofs.FaultLaws.{same_fault, not_both}
 use Rattle.input_script.specs.declared.fault.ScriptFault.{ScriptFault}
 use Rattle.input_script.specs.Script.{Schedule, IsScript, script_fault}
 

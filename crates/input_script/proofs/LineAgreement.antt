@@ -6,9 +6,9 @@ use Rattle.std.proofs.lemmas.Bool.{and_parts, eqb-true}
 use Rattle.std.proofs.lemmas.Bool.Decides.{nat_tests}
 use Rattle.std.proofs.lemmas.List.{append_assoc}
 use Rattle.std.proofs.lemmas.List.Splits.{join_with_byte-slice_split}
-use Rattle.line_reader.specs.Cutting.{Lacks}
-use Rattle.line_reader.proofs.CutLaws.{lacks_unplaced}
-use Rattle.line_reader.proofs.FaultLaws.{found_is}
+use Rattle.text_lines.specs.Cutting.{Lacks}
+use Rattle.text_lines.proofs.CutLaws.{lacks_unplaced}
+use Rattle.text_lines.proofs.FaultLaws.{found_is}
 use Rattle.input_script.specs.declared.input.Input.{Input}
 use Rattle.input_script.specs.declared.input.Input.TheVariants.{Pin, Uart, Adc, Int}
 use Rattle.input_script.specs.declared.line.Statement.{Statement}

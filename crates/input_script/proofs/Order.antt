@@ -1,11 +1,11 @@
 -- Numbers in order: an earlier one is greater exactly where the last one is.
-use Rattle.std.proofs.Common.{◌≡◌, ℕ, zero, suc, ◌-◌, ◌<◌, ◌≤◌, ◌||◌, List, [], ◌∷◌, ◌++◌, length, get_or, ltb, Bool, true, false, arith, ap, ◌∙◌, sym, refl, inl, inr}
+use Rattle.std.proofs.Common.{◌≡◌, ℕ, zero, suc, ◌-◌, ◌<◌, ◌≤◌, List, [], ◌∷◌, ◌++◌, length, get_or, ltb, Bool, true, false, arith, ap, ◌∙◌, sym, refl, inl, inr}
 use Rattle.std.specs.Prelude.{All, AllPairs}
 use Rattle.std.specs.List.{list_any}
 use Rattle.std.proofs.lemmas.List.{get_or_default}
 use Rattle.std.proofs.lemmas.List.Folds.{list_any_none}
 use Rattle.std.proofs.lemmas.List.Quantifiers.{all_pairs_push}
-use Rattle.std.proofs.lemmas.Bool.{cases_lt}
+use Rattle.std.proofs.lemmas.Bool.{cases_lt, or_right}
 use Rattle.std.proofs.lemmas.Bool.Decides.{nat_tests}
 
 -- the numbers of a list's items don't fall
@@ -16,17 +16,13 @@ IsOrdered key xs = AllPairs (λ earlier later. key earlier ≤ key later) xs
 abbrev pub is_below_some : {A : Type 0} → (A → ℕ) → List A → ℕ → Bool
 is_below_some key xs n = list_any (λ earlier. ltb n (key earlier)) xs
 
-or_true : (a b : Bool) → b ≡ true → (a || b) ≡ true
-or_true true b is = refl
-or_true false b is = is
-
 module _ (A : Type 0) (key : A → ℕ) where
   below_item : (xs : List A) (n k : ℕ) (d : A) → k < length xs → n < key (get_or xs k d) → is_below_some key xs n ≡ true
   below_item [] n k d below less = absurd (omega arith)
   below_item (x ∷ xs) n zero d below less =
       let here : ltb n (key x) ≡ true = grind (arith, nat_tests) in
       rw here refl
-  below_item (x ∷ xs) n (suc k) d below less = or_true (ltb n (key x)) (is_below_some key xs n) (below_item xs n k d (omega arith) less)
+  below_item (x ∷ xs) n (suc k) d below less = or_right (ltb n (key x)) (is_below_some key xs n) (below_item xs n k d (omega arith) less)
 
   -- where none is greater, each is at most this
   none_below : (xs : List A) (n : ℕ) → is_below_some key xs n ≡ false → (k : ℕ) (d : A) → k < length xs → key (get_or xs k d) ≤ n

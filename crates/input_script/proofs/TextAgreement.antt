@@ -4,9 +4,9 @@ use Rattle.std.specs.Prelude.{All, Option, Some, None}
 use Rattle.std.proofs.lemmas.Bool.Decides.{nat_tests}
 use Rattle.std.proofs.lemmas.List.{append_assoc, append-nil, length-append, get_or_append_left, get_or_at}
 use Rattle.std.proofs.lemmas.List.Folds.{list_any_none}
-use Rattle.line_reader.specs.Lines.{lines_of}
-use Rattle.line_reader.specs.Faults.{after_lines, first_fault}
-use Rattle.line_reader.proofs.FaultLaws.{fault_behind, fault_here, first_at, found_is, none_parts}
+use Rattle.text_lines.specs.Lines.{lines_of}
+use Rattle.text_lines.specs.Faults.{after_lines, first_fault}
+use Rattle.text_lines.proofs.FaultLaws.{fault_behind, fault_here, first_at, found_is, none_parts}
 use Rattle.input_script.specs.declared.input.Event.{Event}
 use Rattle.input_script.specs.declared.line.Statement.{Statement}
 use Rattle.input_script.specs.declared.line.Statement.TheVariants.{Nothing, At, FailFlash}

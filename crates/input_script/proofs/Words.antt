@@ -5,8 +5,8 @@ use Rattle.std.specs.List.{onto_first}
 use Rattle.std.proofs.lemmas.Bool.Decides.{nat_tests}
 use Rattle.std.proofs.lemmas.List.Splits.{join_with_byte-slice_split}
 use Rattle.std.proofs.lemmas.Slice.Eq.{bytes_eq-Decides}
-use Rattle.line_reader.specs.Cutting.{Lacks}
-use Rattle.line_reader.proofs.CutLaws.{lacks_unplaced}
+use Rattle.text_lines.specs.Cutting.{Lacks}
+use Rattle.text_lines.proofs.CutLaws.{lacks_unplaced}
 use Rattle.input_script.specs.declared.line.Statement.{Statement}
 use Rattle.input_script.specs.declared.line.Statement.TheVariants.{At, FailFlash}
 use Rattle.input_script.specs.declared.input.Input.{Input}

@@ -5,7 +5,7 @@ use Rattle.std.specs.Prelude.{ℕ, ◌==◌, ◌&&◌, ◌||◌, Bool, nat_le, i
 use Rattle.std.specs.List.{list_all, slice_split}
 use Rattle.std.specs.Char.{is_digit}
 use Rattle.std.specs.Str.Parse.{digits_value}
-use Rattle.line_reader.specs.Stripping.{stripped}
+use Rattle.text_lines.specs.Stripping.{stripped}
 use Rattle.input_script.specs.declared.input.Input.{Input}
 use Rattle.input_script.specs.declared.input.Input.TheVariants.{Pin, Uart, Adc, Int}
 use Rattle.input_script.specs.declared.line.Statement.{Statement}

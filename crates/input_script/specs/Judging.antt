@@ -2,7 +2,7 @@
 use Rattle.std.specs.Prelude.{◌≡◌, ℕ, ◌<◌, List, ◌++◌, length, Some, None}
 use Rattle.input_script.specs.declared.fault.ScriptError.{ScriptError}
 use Rattle.input_script.specs.declared.fault.ScriptError.TheVariants.{Bad, NoMemory}
-use Rattle.line_reader.specs.Faults.{after_lines, first_fault}
+use Rattle.text_lines.specs.Faults.{after_lines, first_fault}
 use Rattle.input_script.specs.Script.{Schedule, nothing, size, after, fault_at}
 
 -- what is scheduled before a line and behind it: the line has no fault

@@ -8,8 +8,8 @@ use Rattle.input_script.specs.declared.line.Statement.{Statement}
 use Rattle.input_script.specs.declared.line.Statement.TheVariants.{Nothing, At, FailFlash}
 use Rattle.input_script.specs.declared.fault.ScriptFault.{ScriptFault}
 use Rattle.input_script.specs.declared.fault.ScriptFault.TheVariants.{Form, Order, Range, TooMany}
-use Rattle.line_reader.specs.Lines.{lines_of}
-use Rattle.line_reader.specs.Faults.{after_lines, first_fault}
+use Rattle.text_lines.specs.Lines.{lines_of}
+use Rattle.text_lines.specs.Faults.{after_lines, first_fault}
 use Rattle.input_script.specs.Grammar.{statement_of}
 
 -- the inputs that come, and the numbers of the flash operations that fail

@@ -5,7 +5,7 @@
 //! program of flash fail. A line is empty, begins with `#`, or is one of these. [`read`] answers what the
 //! lines schedule, or the first faulty line and its first fault.
 //!
-//! The lines of a text are those of `line_reader`; `specs/Grammar.antt` says what a line says, and
+//! The lines of a text are those of `text_lines`; `specs/Grammar.antt` says what a line says, and
 //! `specs/Script.antt` which fault it has behind others, and what a text without a fault schedules. [`grammar`]
 //! is the law that they say what the format says (`specs/GrammarLaw.antt`).
 #![tactic(auto)]

@@ -6,7 +6,7 @@ ghost use Rattle.input_script.specs.declared.line.Statement.TheVariants.{At, Fai
 ghost use Rattle.input_script.specs.Grammar.{digits_in, number_of, hex_in, input_in, words_of, said_in, statement_of};
 
 use crate::input::Input;
-use line_reader::{split_once, value_of};
+use text_lines::{split_once, value_of};
 
 /// What a line says. Its number is as it was written, of up to 10 digits.
 #[derive(Clone, Copy)]

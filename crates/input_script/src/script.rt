@@ -9,9 +9,9 @@ ghost use Rattle.input_script.specs.Judging.{Takes, IsRefusal};
 use crate::fault::{ScriptError, ScriptFault};
 use crate::input::{Event, Input};
 use crate::line::{Statement, statement_in};
-use line_reader::first_line;
 use std::alloc::Global;
 use std::marker::Model;
+use text_lines::first_line;
 
 /// How many events and fail lines a script may have.
 const MOST_STATEMENTS: usize = 65536;

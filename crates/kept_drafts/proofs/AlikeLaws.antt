@@ -15,7 +15,7 @@ use Rattle.nat_template.specs.Stubs.{stub}
 use Rattle.nat_template.specs.Templates.{template_of}
 use Rattle.page_draft.specs.Standing.{size}
 use Rattle.page_draft.specs.Runs.{next_of, template_at, closing_at, ends_at, never_returns, is_closed, address, templates, IsRun}
-use Rattle.page_draft.specs.CodePages.{map_words, map_word, code, page_pieces}
+use Rattle.page_draft.specs.CodePages.{map_words, code, page_pieces}
 use Rattle.page_index.specs.Entries.{Lists}
 use Rattle.page_draft.proofs.RunLaws.{length-map_words}
 use Rattle.nat_page.specs.Making.{PageStops}
@@ -38,21 +38,22 @@ second-alike image other t a short alike paged =
 next-alike : (image other : List ℕ) (t a : ℕ) → AreAlike image other t → t / page_words ≡ a / page_words → next_of image a ≡ next_of other a
 next-alike image other t a alike paged = ap (λ w. a + size_by_first_word w) (alike.words a paged)
 
-template-alike : (image other : List ℕ) (t a : ℕ) → t < most_image_words → AreAlike image other t → t / page_words ≡ a / page_words → template_at image a ≡ template_at other a
-template-alike image other t a short alike paged =
-    let Template : ℕ → ℕ → ℕ → List Piece = λ first second behind. template_of a first (the_form first second) (size_by_first_word behind) in
-    let second = (a + 1) % 65536 in
-    ap (λ w. Template w (word image second) (word image (a + 1))) (alike.words a paged) ∙
-    ap (λ w. Template (word other a) w (word image (a + 1))) (second-alike image other t a short alike paged) ∙
-    ap (λ w. Template (word other a) (word other second) w) (alike.seconds a paged)
+module _ (image other : List ℕ) (t a : ℕ) (short : t < most_image_words) (alike : AreAlike image other t) (paged : t / page_words ≡ a / page_words) where
+  template-alike : template_at image a ≡ template_at other a
+  template-alike =
+      let Template : ℕ → ℕ → ℕ → List Piece = λ first second behind. template_of a first (the_form first second) (size_by_first_word behind) in
+      let second = (a + 1) % 65536 in
+      ap (λ w. Template w (word image second) (word image (a + 1))) (alike.words a paged) ∙
+      ap (λ w. Template (word other a) w (word image (a + 1))) (second-alike image other t a short alike paged) ∙
+      ap (Template (word other a) (word other second)) (alike.seconds a paged)
 
-closing-alike : (image other : List ℕ) (t a : ℕ) → t < most_image_words → AreAlike image other t → t / page_words ≡ a / page_words → closing_at image a ≡ closing_at other a
-closing-alike image other t a short alike paged =
-    ap₂ (λ first second. if is_closed (shape_of a (the_form first second)) then stub a (a + size_by_first_word first) else []) (alike.words a paged) (second-alike image other t a short alike paged)
+  closing-alike : closing_at image a ≡ closing_at other a
+  closing-alike =
+      ap₂ (λ first second. if is_closed (shape_of a (the_form first second)) then stub a (a + size_by_first_word first) else []) (alike.words a paged) (second-alike image other t a short alike paged)
 
-ends-alike : (image other : List ℕ) (t a : ℕ) → t < most_image_words → AreAlike image other t → t / page_words ≡ a / page_words → ends_at image a ≡ ends_at other a
-ends-alike image other t a short alike paged =
-    ap₂ (λ first second. never_returns (shape_of a (the_form first second)) (the_form first second)) (alike.words a paged) (second-alike image other t a short alike paged)
+  ends-alike : ends_at image a ≡ ends_at other a
+  ends-alike =
+      ap₂ (λ first second. never_returns (shape_of a (the_form first second)) (the_form first second)) (alike.words a paged) (second-alike image other t a short alike paged)
 
 -- The instructions of a run. ----------------------------------------------------------------------
 
@@ -71,23 +72,24 @@ templates-alike image other t last (suc i) short alike paged near =
     let here = template-alike image other t (address image t i) short alike (sym (paged i (omega arith))) ∙ ap (template_at other) (address-alike image other t last i alike paged (omega arith)) in
     ap₂ (λ front back. front ++ back) (templates-alike image other t last i short alike paged (omega arith)) here
 
-map-alike : (image other : List ℕ) (t last : ℕ) → t < most_image_words → AreAlike image other t → ArePaged image t last → map_words image t (suc last) ≡ map_words other t (suc last)
-map-alike image other t last short alike paged =
-    same_number_lists _ _ (length-map_words image t (suc last) ∙ sym (length-map_words other t (suc last))) (λ k below.
-    let near : k < suc last = omega (arith, length-map_words image t (suc last)) in
-    let item : map_word image t (suc last) k ≡ map_word other t (suc last) k = ap₂ (λ a front. 256 * (a % page_words) + (2 + suc last + size front)) (address-alike image other t last k alike paged (omega arith)) (templates-alike image other t last k short alike paged (omega arith)) in
-    map_words-item image t (suc last) k near ∙ item ∙ sym (map_words-item other t (suc last) k near))
+module _ (image other : List ℕ) (t last : ℕ) (short : t < most_image_words) (alike : AreAlike image other t) (paged : ArePaged image t last) where
+  map-alike : map_words image t (suc last) ≡ map_words other t (suc last)
+  map-alike =
+      same_number_lists _ _ (length-map_words image t (suc last) ∙ sym (length-map_words other t (suc last))) (λ k below.
+      let near : k < suc last = omega (arith, length-map_words image t (suc last)) in
+      let item = ap₂ (λ a front. 256 * (a % page_words) + (2 + suc last + size front)) (address-alike image other t last k alike paged (omega arith))
+      (templates-alike image other t last k short alike paged (omega arith)) in
+      map_words-item image t (suc last) k near ∙ item ∙ sym (map_words-item other t (suc last) k near))
 
-code-alike : (image other : List ℕ) (t last : ℕ) → t < most_image_words → AreAlike image other t → ArePaged image t last → code image t last ≡ code other t last
-unfolding code
-code-alike image other t last short alike paged =
-    let end = closing-alike image other t (address image t last) short alike (sym (paged last (omega arith))) ∙ ap (closing_at other) (address-alike image other t last last alike paged (omega arith)) in
-    ap₂ (λ front back. front ++ back) (templates-alike image other t last (suc last) short alike paged (omega arith)) end
+  code-alike : code image t last ≡ code other t last
+  unfolding code
+  code-alike =
+      let end = closing-alike image other t (address image t last) short alike (sym (paged last (omega arith))) ∙ ap (closing_at other) (address-alike _ _ _ _ _ alike paged (omega arith)) in
+      ap₂ (λ front back. front ++ back) (templates-alike image other t last (suc last) short alike paged (omega arith)) end
 
-pub pieces-alike : (image other : List ℕ) (t last : ℕ) → t < most_image_words → AreAlike image other t → ArePaged image t last → page_pieces image t last ≡ page_pieces other t last
-unfolding page_pieces
-pieces-alike image other t last short alike paged =
-    ap₂ (λ words body. Fixed (t / page_words) ∷ Fixed (suc last) ∷ map (λ word. Fixed word) words ++ body) (map-alike image other t last short alike paged) (code-alike image other t last short alike paged)
+  pub pieces-alike : page_pieces image t last ≡ page_pieces other t last
+  unfolding page_pieces
+  pieces-alike = ap₂ (λ words body. Fixed (t / page_words) ∷ Fixed (suc last) ∷ map Fixed words ++ body) (map-alike) (code-alike)
 
 -- A run, and why it stops. ------------------------------------------------------------------------
 
@@ -102,9 +104,10 @@ run-alike image other t last short alike run =
           sym (ends-alike image other t (address image t i) short alike (sym (run.paged i near)) ∙ ap (ends_at other) (Here i near)) ∙ run.goes_on i below;
     }
 
-pub stops-alike : (layout : Layout) (image other words : List ℕ) (page t last : ℕ) → t < most_image_words → AreAlike image other t → ArePaged image t last → PageStops layout image words page t last → PageStops layout other words page t last
+pub stops-alike : (layout : Layout) (image other words : List ℕ) (page t last : ℕ) → t < most_image_words → AreAlike image other t → ArePaged image t last → PageStops layout image words page t last
+    → PageStops layout other words page t last
 stops-alike layout image other words page t last short alike paged (PageStops.Ends ends) =
-    PageStops.Ends (sym (ends-alike image other t (address image t last) short alike (sym (paged last (omega arith))) ∙ ap (ends_at other) (address-alike image other t last last alike paged (omega arith))) ∙ ends)
+    PageStops.Ends (sym (ends-alike image other t (address image t last) short alike (sym (paged last (omega arith))) ∙ ap (ends_at other) (address-alike _ _ _ _ _ alike paged (omega arith))) ∙ ends)
 stops-alike layout image other words page t last short alike paged (PageStops.Leaves leaves) =
     PageStops.Leaves (λ same. leaves (ap (λ a. a / page_words) (address-alike image other t last (suc last) alike paged (omega arith)) ∙ same))
 stops-alike layout image other words page t last short alike paged (PageStops.Outside outside) =
@@ -119,6 +122,6 @@ stops-alike layout image other words page t last short alike paged (PageStops.Fu
             | inl before ↦ paged i (omega arith)
             | inr end ↦ (let here : suc last ≡ i = omega arith in ap (λ k. address image t k / page_words) (sym here) ∙ same)
           ] in
-          PageStops.Full (subst (λ (n : ℕ). page_words < n) (ap size (pieces-alike image other t (suc last) short alike Paged)) full))
+          PageStops.Full (rw (ap size (pieces-alike image other t (suc last) short alike Paged)) at full))
       | inr leaves ↦ PageStops.Leaves (λ same. leaves (ap (λ a. a / page_words) next ∙ same))
     ]

@@ -9,14 +9,14 @@ use Rattle.flash_words.specs.Layouts.{most_image_words, image_of}
 use Rattle.flash_words.specs.declared.layout.Layout.{Layout}
 use Rattle.nat_template.specs.Stubs.{words_of}
 use Rattle.page_index.specs.Maps.{IsFree}
-use Rattle.page_index.specs.Entries.{IsEntry, AreKnown}
+use Rattle.page_index.specs.Entries.{AreKnown}
 use Rattle.page_draft.specs.Standing.{size}
 use Rattle.page_draft.specs.Runs.{address, templates}
 use Rattle.page_draft.specs.CodePages.{filled}
-use Rattle.avr_ops.specs.declared.micro_op.MicroOp.{MicroOp}
-use Rattle.avr_ops.specs.declared.micro_op.MicroOp.TheVariants.{Undecoded}
-use Rattle.avr_ops.specs.MicroOps.{CanStandFor}
-use Rattle.avr_ops.proofs.UndecodedLaws.{stands_for_any}
+use Rattle.flash_model.specs.declared.micro_ops.MicroOp.{MicroOp}
+use Rattle.flash_model.specs.declared.micro_ops.MicroOp.TheVariants.{Undecoded}
+use Rattle.flash_model.specs.MicroOps.{CanStandFor}
+use Rattle.flash_model.proofs.UndecodedLaws.{stands_for_any}
 use Rattle.flash_model.specs.Code.{decoded_of}
 use Rattle.flash_model.specs.DecodeCache.{StandForPage}
 use Rattle.nat_page.specs.Making.{HasNoEntry, PageStops}
@@ -29,7 +29,8 @@ use Rattle.nat_page.proofs.DraftedLaws.{stops_of}
 use Rattle.kept_drafts.proofs.AlikeLaws.{AreAlike, ArePaged, address-alike, pieces-alike, run-alike, stops-alike}
 
 -- a word of the original page, or the one behind it
-word-same : (image other words : List ℕ) (behind page a : ℕ) → HasWords image page words behind → HasWords other page words behind → length image ≡ length other → page_words * page ≤ a → a ≤ page_words * page + page_words → word image a ≡ word other a
+word-same : (image other words : List ℕ) (behind page a : ℕ) → HasWords image page words behind → HasWords other page words behind → length image ≡ length other → page_words * page ≤ a
+    → a ≤ page_words * page + page_words → word image a ≡ word other a
 word-same image other words behind page a one two size from to = elim (cases_lt a (page_words * page + page_words)) [
   | inl within ↦ elim (cases_lt a (length image)) [
     | inl inside ↦ (
@@ -44,7 +45,8 @@ word-same image other words behind page a one two size from to = elim (cases_lt 
 ]
 
 -- images that have the same words there
-pub alike_by : (image other words : List ℕ) (behind t : ℕ) → HasWords image (t / page_words) words behind → HasWords other (t / page_words) words behind → length image ≡ length other → AreAlike image other t
+pub alike_by : (image other words : List ℕ) (behind t : ℕ) → HasWords image (t / page_words) words behind → HasWords other (t / page_words) words behind → length image ≡ length other
+    → AreAlike image other t
 alike_by image other words behind t one two size = record {
   size = size;
   words = λ a paged. word-same image other words behind (t / page_words) a one two size (omega arith) (omega arith);
@@ -52,7 +54,9 @@ alike_by image other words behind t one two size = record {
 }
 
 -- the image that flash holds has the words of its page
-pub flash_has : (layout : Layout) (words original : List ℕ) (page behind : ℕ) → length words ≡ word_count → length (image_of layout words) ≡ layout.image_words → layout.image_words ≤ most_image_words → ((k : ℕ) → k < page_words → word_at (page_of words page) k ≡ word_at original k) → behind ≡ word (image_of layout words) (page_words * (page + 1)) → HasWords (image_of layout words) page original behind
+pub flash_has : (layout : Layout) (words original : List ℕ) (page behind : ℕ) → length words ≡ word_count → length (image_of layout words) ≡ layout.image_words → layout.image_words ≤ most_image_words
+    → ((k : ℕ) → k < page_words → word_at (page_of words page) k ≡ word_at original k) → behind ≡ word (image_of layout words) (page_words * (page + 1))
+    → HasWords (image_of layout words) page original behind
 flash_has layout words original page behind whole size short same next = record {
   own = λ k near inside.
       same_word layout.image_words (page_words * page + k) words (omega (arith, inside, size)) (omega (arith, inside, size, short, whole)) ∙ sym (page_word words page k near) ∙ same k near;
@@ -61,26 +65,27 @@ flash_has layout words original page behind whole size short same next = record 
 
 -- where nothing is decoded, that may stand for any words
 pub undecoded_stand : (words : List ℕ) → StandForPage words (replicate page_words Undecoded)
-undecoded_stand words i op near = subst (λ (o : MicroOp). CanStandFor o (decoded_of (word_at words i) (word_at words (i + 1))).instr (decoded_of (word_at words i) (word_at words (i + 1))).next_size) (sym (get_or-replicate page_words i Undecoded op (omega arith))) (stands_for_any _ _)
+undecoded_stand words i op near =
+    subst (λ (o : MicroOp). CanStandFor o (decoded_of (word_at words i) (word_at words (i + 1))).instr (decoded_of (word_at words i) (word_at words (i + 1))).next_size)
+    (sym (get_or-replicate page_words i Undecoded op (omega arith))) (stands_for_any _ _)
 
 -- one that may stand for its word, in the place of another
 pub stand_set : (words : List ℕ) (micro_ops : List MicroOp) (i : ℕ) (op : MicroOp) → i < length micro_ops
     → CanStandFor op (decoded_of (word_at words i) (word_at words (i + 1))).instr (decoded_of (word_at words i) (word_at words (i + 1))).next_size
     → StandForPage words micro_ops → StandForPage words (slice_set micro_ops i op)
 stand_set words micro_ops i op inside stands all k other near =
-    let Stands : MicroOp → Type 0 = λ o. CanStandFor o (decoded_of (word_at words k) (word_at words (k + 1))).instr (decoded_of (word_at words k) (word_at words (k + 1))).next_size in
     elim (cases_eq k i) [
       | inl same ↦ (
-          let Here : ℕ → Type 0 = λ j. CanStandFor op (decoded_of (word_at words j) (word_at words (j + 1))).instr (decoded_of (word_at words j) (word_at words (j + 1))).next_size in
           let there : slice_index_or (slice_set micro_ops i op) k other ≡ op = ap (λ j. slice_index_or (slice_set micro_ops i op) j other) same ∙ get_or-set_same micro_ops i op other inside in
-          subst Stands (sym there) (subst Here (sym same) stands))
-      | inr apart ↦ subst Stands (sym (get_or-set_other micro_ops i k op other apart)) (all k other near)
+          rw there (rw same stands))
+      | inr apart ↦ rw (get_or-set_other micro_ops i k op other apart) (all k other near)
     ]
 
 -- Why a run stops. --------------------------------------------------------------------------------
 
 -- where no entry stops it, it stops whatever pages there are
-pub stops_alone : (layout : Layout) (image words : List ℕ) (t last : ℕ) (known : List Bool) → AreKnown layout words (t / page_words) known → length image ≡ layout.image_words → address image t last / page_words ≡ t / page_words
+pub stops_alone : (layout : Layout) (image words : List ℕ) (t last : ℕ) (known : List Bool) → AreKnown layout words (t / page_words) known → length image ≡ layout.image_words
+    → address image t last / page_words ≡ t / page_words
     → StopsBehind layout image words (address image t last) (last + 3 + size (templates image t (suc last)))
     → (address image t (suc last) / page_words ≡ t / page_words → address image t (suc last) < layout.image_words → slice_index_or known (address image t (suc last) % page_words) false ≡ false)
     → (layout' : Layout) (words' : List ℕ) (page : ℕ) → PageStops layout' image words' page t last
@@ -95,7 +100,7 @@ stops_alone layout image words t last known are size paged (StopsBehind.Known v 
       | inl same ↦ elim (cases_lt next layout.image_words) [
         | inl inside ↦ (
             let there : page_words * (t / page_words) + next % page_words ≡ next = omega arith in
-            let found = are.only (next % page_words) v (omega arith) (subst (λ (a : ℕ). IsEntry layout words a v) (sym there) entry) in
+            let found = are.only (next % page_words) v (omega arith) (rw there entry) in
             absurd (true≢false (sym found ∙ none same inside)))
         | inr outside ↦ PageStops.Outside (omega arith)
       ]
@@ -122,13 +127,14 @@ unknown_run layout image words t last known are paged none i near v entry =
     let here = paged i near in
     let there = paged last (omega arith) in
     let place : page_words * (t / page_words) + a % page_words ≡ a = omega arith in
-    let found = are.only (a % page_words) v (omega arith) (subst (λ (b : ℕ). IsEntry layout words b v) (sym place) entry) in
+    let found = are.only (a % page_words) v (omega arith) (rw place entry) in
     true≢false (sym found ∙ none (a % page_words) (omega arith) (omega arith))
 
 -- What is kept serves. ----------------------------------------------------------------------------
 
 -- at the entry that stopped it, or whatever pages there are
-stops_kept : (layout : Layout) (from image old : List ℕ) (known : List Bool) (page t last next : ℕ) (flag : Bool) → t < most_image_words → AreAlike from image t → ArePaged image t last → ArePaged from t last
+stops_kept : (layout : Layout) (from image old : List ℕ) (known : List Bool) (page t last next : ℕ) (flag : Bool) → t < most_image_words → AreAlike from image t → ArePaged image t last
+    → ArePaged from t last
     → AreKnown layout old (t / page_words) known → IsFree old page → next ≡ address image t (suc last)
     → (flag ≡ true → next / page_words ≡ t / page_words)
     → (flag ≡ false → (layout' : Layout) (words : List ℕ) (page' : ℕ) → PageStops layout' from words page' t last)
@@ -138,7 +144,7 @@ stops_kept layout from image old known page t last next true short alike paged b
     let found = are.found (next % page_words) (omega arith) (still refl) in
     let paged' = at_entry refl in
     let there : page_words * (t / page_words) + next % page_words ≡ address image t (suc last) = omega arith in
-    stops_of layout image old page t last free (paged last (omega arith)) (StopsBehind.Known found.0 (subst (λ (a : ℕ). IsEntry layout old a found.0) there found.1))
+    stops_of layout image old page t last free (paged last (omega arith)) (StopsBehind.Known found.0 (rw there at found.1))
 stops_kept layout from image old known page t last next false short alike paged before are free is at_entry alone still =
     stops-alike layout from image old page t last short alike before (alone refl layout old page)
 
@@ -164,7 +170,7 @@ serves_still layout image old kept known from draft are sized read none still pa
       last = last;
       run = run;
       unknown = unknown_run layout image old t last known are run.paged (λ k above below. none k above (omega arith));
-      fits = subst (λ (n : ℕ). n ≤ page_words) (ap size pieces) draft.fits;
+      fits = rw (ap size pieces) at draft.fits;
       stops = stops;
       is = draft.words ∙ ap (λ ps. filled (words_of ps)) pieces;
       placed = omega (arith, draft.front);
@@ -180,5 +186,5 @@ pub serves_now : (layout : Layout) (image old : List ℕ) (kept now : Kept) (kno
 serves_now layout image old kept now known from t draft view first are sized read none still =
     let At : ℕ → Type 0 = λ a. AreKnown layout old (a / page_words) known → HasWords image (a / page_words) kept.original kept.behind
     → ((k : ℕ) → a % page_words ≤ k → k < kept.last % page_words + 1 → slice_index_or known k false ≡ false) → Serves layout image old a kept in
-    let still' = subst (λ (k : Kept). k.stops_at_entry ≡ true → slice_index_or known (k.next % page_words) false ≡ true) (sym view) still in
-    subst (λ (k : Kept). Serves layout image old t k) view (subst At first (λ are' read' none'. serves_still layout image old kept known from draft are' sized read' none' still') are read none)
+    let still' = rw (← view) at still in
+    rw view at (subst At first (λ are' read' none'. serves_still layout image old kept known from draft are' sized read' none' still') are read none)

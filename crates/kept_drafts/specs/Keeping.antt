@@ -2,7 +2,7 @@
 -- (docs/LOADER.md, "Kept drafts").
 use Rattle.std.specs.Prelude.{◌≡◌, ℕ, suc, ◌+◌, ◌*◌, ◌/◌, ◌<◌, ◌≤◌, Bool, true, false, List, length}
 use Rattle.avr_isa.specs.Image.{word}
-use Rattle.avr_ops.specs.declared.micro_op.MicroOp.{MicroOp}
+use Rattle.flash_model.specs.declared.micro_ops.MicroOp.{MicroOp}
 use Rattle.flash_words.specs.Pages.{page_words, word_at}
 use Rattle.flash_words.specs.Layouts.{most_image_words}
 use Rattle.flash_words.specs.declared.layout.Layout.{Layout}

@@ -9,8 +9,7 @@ ghost use Rattle.flash_model.specs.DecodeCache.{StandForPage};
 ghost use Rattle.nat_page.specs.Making.{HasNoEntry};
 ghost use Rattle.kept_drafts.specs.Keeping.{Serves};
 
-use avr_ops::MicroOp;
-use flash_model::{Flash, Layout, PAGE_WORDS, micro_op, word_in_image};
+use flash_model::{Flash, Layout, MicroOp, PAGE_WORDS, micro_op, word_in_image};
 use nat_page::{draft_page, page_words};
 use std::marker::Model;
 

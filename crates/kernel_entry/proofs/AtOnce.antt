@@ -16,7 +16,7 @@ use Rattle.avr_exec.specs.declared.answer.Answer.{Answer}
 use Rattle.avr_exec.specs.declared.answer.Answer.TheVariants.{Done, Byte, Address}
 use Rattle.avr_exec.specs.declared.ask.Ask.TheVariants.{Nothing, Load, Store}
 use Rattle.avr_isa.specs.declared.operation.Ptr.{Ptr}
-use Rattle.avr_isa.specs.declared.operation.Ptr.TheVariants.{ZInc, ZDec, YInc, YDec, X, XInc, XDec}
+use Rattle.avr_isa.specs.declared.operation.Ptr.TheVariants.{ZInc}
 use Rattle.avr_exec.specs.declared.stop.BusStop.TheVariants.{Stack as StackStop}
 use Rattle.avr_exec.specs.Asks.{ask_of, finish_of, number_of, load_of, store_of, displaced, target, pointer_value}
 use Rattle.avr_exec.specs.Effects.{loaded, stored, with_pointer, with_z_raised_if}
@@ -33,6 +33,7 @@ use Rattle.flat_machine.proofs.ReadLaws.{reads_program, asks_none}
 use Rattle.heap_frames.specs.Paged.{IsPaged}
 use Rattle.mem_guard.specs.AtHand.{stored_at_hand, LoadsAtHand, StoresAtHand}
 use Rattle.mem_guard.specs.Guarded.{Guarded, guarded_calls, push, pop, pop_return, push_return}
+use Rattle.kernel_entry.proofs.LeftLaws.{core_here}
 use Rattle.kernel_entry.specs.declared.kernel.Kernel.{Kernel}
 use Rattle.kernel_entry.specs.Parts.{descriptor, instruction, virtual_sp, memory_of, core_of, rested, put_back, with_sram, image_held}
 use Rattle.kernel_entry.specs.Interrupts.{with_address}
@@ -46,7 +47,7 @@ pub returned_is : (k next : Kernel) (pc : ℕ) → pop_return (memory_of k) (vir
 unfolding executed exec_of answer_of ask_of finish_of
 returned_is k next pc popped after =
     ap (λ (n : Kernel). (Ok (record { pc = pc; line = None }), n)) after
-    ∙ ap (λ o. execution_by k (answered_by (finish_of forms.Ret (core_of k (descriptor k)) (next_size (image_held k) (descriptor k))) (answered_by Address o))) (sym popped)
+    ∙ ap (λ o. execution_by k (answered_by (finish_of forms.Ret (core_here k) (next_size (image_held k) (descriptor k))) (answered_by Address o))) (sym popped)
 
 -- a return address was pushed: SRAM then has these bytes
 abbrev pushed_sram : Kernel → (behind : ℕ) → List ℕ
@@ -63,13 +64,13 @@ pub called_here : (k : Kernel) (a : ℕ) → Pushes k (wrapping_sum (descriptor 
     → WentOn k (forms.Call a) a (with_push k (wrapping_sum (descriptor k) 2))
 unfolding executed exec_of answer_of ask_of finish_of
 called_here k a pushed =
-    ap (λ o. execution_by k (answered_by (finish_of (forms.Call a) (core_of k (descriptor k)) (next_size (image_held k) (descriptor k))) (answered_by (λ _. Done) o))) (sym pushed)
+    ap (λ o. execution_by k (answered_by (finish_of (forms.Call a) (core_here k) (next_size (image_held k) (descriptor k))) (answered_by (λ _. Done) o))) (sym pushed)
 
 pub called_near_here : (k : Kernel) (o : ℤ) → Pushes k (wrapping_sum (descriptor k) 1)
     → WentOn k (forms.Rcall o) (relative (descriptor k) o) (with_push k (wrapping_sum (descriptor k) 1))
 unfolding executed exec_of answer_of ask_of finish_of
 called_near_here k o pushed =
-    ap (λ x. execution_by k (answered_by (finish_of (forms.Rcall o) (core_of k (descriptor k)) (next_size (image_held k) (descriptor k))) (answered_by (λ _. Done) x))) (sym pushed)
+    ap (λ x. execution_by k (answered_by (finish_of (forms.Rcall o) (core_here k) (next_size (image_held k) (descriptor k))) (answered_by (λ _. Done) x))) (sym pushed)
 
 -- what is told and left, by an equation
 abbrev on_by : (k : Kernel) (form : Form) (pc : ℕ) (next left : Kernel) → next ≡ left → WentOn k form pc left → WentOn k form pc next
@@ -88,38 +89,42 @@ called_near_is k next at o here pushed after =
 -- a byte at hand is loaded from address a: what becomes of the core, by the byte, is f
 after_load : (k : Kernel) (form : Form) (f : ℕ → Cpu) (a words byte : ℕ)
     → execution k form
-    ≡ execution_by k (answered_by (λ answer. with_counter (f (loaded (core_of k (descriptor k)) a (number_of answer))) (wrapping_sum (f (loaded (core_of k (descriptor k)) a (number_of answer))).pc words)) (answer_of guarded_calls (memory_of k) (load_of a)))
+    ≡ execution_by k (answered_by (λ answer. with_counter (f (loaded (core_here k) a (number_of answer))) (wrapping_sum (f (loaded (core_here k) a (number_of answer))).pc words))
+    (answer_of guarded_calls (memory_of k) (load_of a)))
     → IsPaged k.mote.sram k.mote.swap → LoadsAtHand k.mote.sram a byte → WentOn k form (wrapping_sum (f byte).pc words) (put_back k (f byte) (memory_of k))
 unfolding answer_of load_of loaded
 after_load k form f a words byte is paged hit =
     let core = core_of k (descriptor k) in
     sym (is
-    ∙ ap (λ b. execution_by k (answered_by (λ answer. with_counter (f (if b then own_byte core a else number_of answer)) (wrapping_sum (f (if b then own_byte core a else number_of answer)).pc words)) (answer_of guarded_calls (memory_of k) (if b then Nothing else Load a)))) hit.outside
+    ∙ ap (λ b. execution_by k (answered_by (λ answer. with_counter (f (if b then own_byte core a else number_of answer)) (wrapping_sum (f (if b then own_byte core a else number_of answer)).pc words))
+    (answer_of guarded_calls (memory_of k) (if b then Nothing else Load a)))) hit.outside
     ∙ ap (λ o. execution_by k (answered_by (λ answer. with_counter (f (number_of answer)) (wrapping_sum (f (number_of answer)).pc words)) (answered_by Byte o))) (hit.loads (memory_of k) refl paged))
 
 -- a byte is stored at address a, where the one there is at hand; the core becomes f of it
 after_store : (k : Kernel) (form : Form) (f : Cpu → Cpu) (a v words : ℕ)
     → execution k form
-    ≡ execution_by k (answered_by (λ (_ : Answer). with_counter (f (stored (core_of k (descriptor k)) a v)) (wrapping_sum (f (stored (core_of k (descriptor k)) a v)).pc words)) (answer_of guarded_calls (memory_of k) (store_of a v)))
+    ≡ execution_by k (answered_by (λ (_ : Answer). with_counter (f (stored (core_here k) a v)) (wrapping_sum (f (stored (core_here k) a v)).pc words))
+    (answer_of guarded_calls (memory_of k) (store_of a v)))
     → IsPaged k.mote.sram k.mote.swap → StoresAtHand k.mote.sram a v
-    → WentOn k form (wrapping_sum (f (core_of k (descriptor k))).pc words) (put_back k (f (core_of k (descriptor k))) (memory_of (with_sram k (stored_at_hand k.mote.sram a v))))
+    → WentOn k form (wrapping_sum (f (core_here k)).pc words) (put_back k (f (core_here k)) (memory_of (with_sram k (stored_at_hand k.mote.sram a v))))
 unfolding answer_of store_of stored
 after_store k form f a v words is paged hit =
     let core = core_of k (descriptor k) in
     sym (is
-    ∙ ap (λ b. execution_by k (answered_by (λ (_ : Answer). with_counter (f (if b then with_own_byte core a v else core)) (wrapping_sum (f (if b then with_own_byte core a v else core)).pc words)) (answer_of guarded_calls (memory_of k) (if b then Nothing else Store a v)))) hit.outside
+    ∙ ap (λ b. execution_by k (answered_by (λ (_ : Answer). with_counter (f (if b then with_own_byte core a v else core)) (wrapping_sum (f (if b then with_own_byte core a v else core)).pc words))
+    (answer_of guarded_calls (memory_of k) (if b then Nothing else Store a v)))) hit.outside
     ∙ ap (λ o. execution_by k (answered_by (λ (_ : Answer). with_counter (f core) (wrapping_sum (f core).pc words)) (answered_by (λ _. Done) o))) (hit.stores (memory_of k) refl paged))
 
 pub lds_is : (k next : Kernel) (d a : ℕ) → IsPaged k.mote.sram k.mote.swap → IsLoaded k d a next → WentOn k (forms.Lds d a) (wrapping_sum (descriptor k) 2) next
 unfolding executed exec_of ask_of finish_of
 lds_is k next d a paged is =
-    on_by k (forms.Lds d a) _ next _ is.after (after_load k (forms.Lds d a) (λ byte. with_register (core_of k (descriptor k)) d byte) a 2 is.byte refl paged is.hit)
+    on_by k (forms.Lds d a) _ next _ is.after (after_load k (forms.Lds d a) (λ byte. with_register (core_here k) d byte) a 2 is.byte refl paged is.hit)
 
-pub ldd_is : (k next : Kernel) (d : ℕ) (base : Base) (q : ℕ) → IsPaged k.mote.sram k.mote.swap → IsLoaded k d (displaced (core_of k (descriptor k)) base q) next
+pub ldd_is : (k next : Kernel) (d : ℕ) (base : Base) (q : ℕ) → IsPaged k.mote.sram k.mote.swap → IsLoaded k d (displaced (core_here k) base q) next
     → WentOn k (forms.LoadOff d base q) (wrapping_sum (descriptor k) 1) next
 unfolding executed exec_of ask_of finish_of
 ldd_is k next d base q paged is =
-    on_by k (forms.LoadOff d base q) _ next _ is.after (after_load k (forms.LoadOff d base q) (λ byte. with_register (core_of k (descriptor k)) d byte) (displaced (core_of k (descriptor k)) base q) 1 is.byte refl paged is.hit)
+    on_by k (forms.LoadOff d base q) _ next _ is.after (after_load k (forms.LoadOff d base q) (λ byte. with_register (core_here k) d byte) (displaced (core_here k) base q) 1 is.byte refl paged is.hit)
 
 -- the kernel after a store at address a
 abbrev pub with_store : Kernel → (a v : ℕ) → Kernel
@@ -131,11 +136,11 @@ unfolding executed exec_of ask_of finish_of
 sts_is k next a r paged hit after =
     on_by k (forms.Sts a r) _ next _ after (after_store k (forms.Sts a r) (λ core. core) a (register k.mote.cpu r) 2 refl paged hit)
 
-pub std_is : (k next : Kernel) (base : Base) (q r : ℕ) → IsPaged k.mote.sram k.mote.swap → StoresAtHand k.mote.sram (displaced (core_of k (descriptor k)) base q) (register k.mote.cpu r)
-    → next ≡ with_store k (displaced (core_of k (descriptor k)) base q) (register k.mote.cpu r) → WentOn k (forms.StoreOff base q r) (wrapping_sum (descriptor k) 1) next
+pub std_is : (k next : Kernel) (base : Base) (q r : ℕ) → IsPaged k.mote.sram k.mote.swap → StoresAtHand k.mote.sram (displaced (core_here k) base q) (register k.mote.cpu r)
+    → next ≡ with_store k (displaced (core_here k) base q) (register k.mote.cpu r) → WentOn k (forms.StoreOff base q r) (wrapping_sum (descriptor k) 1) next
 unfolding executed exec_of ask_of finish_of
 std_is k next base q r paged hit after =
-    on_by k (forms.StoreOff base q r) _ next _ after (after_store k (forms.StoreOff base q r) (λ core. core) (displaced (core_of k (descriptor k)) base q) (register k.mote.cpu r) 1 refl paged hit)
+    on_by k (forms.StoreOff base q r) _ next _ after (after_store k (forms.StoreOff base q r) (λ core. core) (displaced (core_here k) base q) (register k.mote.cpu r) 1 refl paged hit)
 
 -- a pointer that changes, in the mote's registers
 abbrev pub with_cpu : Kernel → Cpu → Kernel
@@ -145,22 +150,17 @@ pointer_put : (k : Kernel) (core : Cpu) (memory : Guarded) (p : Ptr) (v : ℕ)
     → with_cpu (put_back k core memory) (with_pointer (put_back k core memory).mote.cpu p v) ≡ put_back k (with_pointer core p v) memory
 unfolding with_pointer
 pointer_put k core memory ZInc v = refl
-pointer_put k core memory ZDec v = refl
-pointer_put k core memory YInc v = refl
-pointer_put k core memory YDec v = refl
-pointer_put k core memory X v = refl
-pointer_put k core memory XInc v = refl
-pointer_put k core memory XDec v = refl
+pointer_put k core memory _ v = refl
 
 -- the data address of a pointer in the mote's registers, and its value
 abbrev pub pointed_at : Kernel → Ptr → ℕ
-pointed_at k p = target (core_of k (descriptor k)) p
+pointed_at k p = target (core_here k) p
 
 abbrev pub pointing : Kernel → Ptr → ℕ
-pointing k p = pointer_value (core_of k (descriptor k)) p
+pointing k p = pointer_value (core_here k) p
 
 abbrev with_load_by : Kernel → (d : ℕ) → Ptr → (byte : ℕ) → Cpu
-with_load_by k d p byte = with_pointer (with_register (core_of k (descriptor k)) d byte) p (pointing k p)
+with_load_by k d p byte = with_pointer (with_register (core_here k) d byte) p (pointing k p)
 
 abbrev LoadsBy : Kernel → (d : ℕ) → Ptr → Type 0
 LoadsBy k d p = (byte : ℕ) → LoadsAtHand k.mote.sram (pointed_at k p) byte
@@ -169,19 +169,14 @@ LoadsBy k d p = (byte : ℕ) → LoadsAtHand k.mote.sram (pointed_at k p) byte
 loads_by : (k : Kernel) (d : ℕ) (p : Ptr) → IsPaged k.mote.sram k.mote.swap → LoadsBy k d p
 unfolding executed exec_of ask_of finish_of with_pointer
 loads_by k d ZInc paged = λ byte hit. after_load k (forms.LoadAt d ZInc) (with_load_by k d ZInc) (pointed_at k ZInc) 1 byte refl paged hit
-loads_by k d ZDec paged = λ byte hit. after_load k (forms.LoadAt d ZDec) (with_load_by k d ZDec) (pointed_at k ZDec) 1 byte refl paged hit
-loads_by k d YInc paged = λ byte hit. after_load k (forms.LoadAt d YInc) (with_load_by k d YInc) (pointed_at k YInc) 1 byte refl paged hit
-loads_by k d YDec paged = λ byte hit. after_load k (forms.LoadAt d YDec) (with_load_by k d YDec) (pointed_at k YDec) 1 byte refl paged hit
-loads_by k d X paged = λ byte hit. after_load k (forms.LoadAt d X) (with_load_by k d X) (pointed_at k X) 1 byte refl paged hit
-loads_by k d XInc paged = λ byte hit. after_load k (forms.LoadAt d XInc) (with_load_by k d XInc) (pointed_at k XInc) 1 byte refl paged hit
-loads_by k d XDec paged = λ byte hit. after_load k (forms.LoadAt d XDec) (with_load_by k d XDec) (pointed_at k XDec) 1 byte refl paged hit
+loads_by k d p paged = λ byte hit. after_load k (forms.LoadAt d p) (with_load_by k d p) (pointed_at k p) 1 byte refl paged hit
 
 pub ld_is : (k left : Kernel) (d : ℕ) (p : Ptr) (cpu : Cpu) → IsPaged k.mote.sram k.mote.swap → IsLoaded k d (pointed_at k p) left → cpu ≡ with_pointer left.mote.cpu p (pointing k p)
     → WentOn k (forms.LoadAt d p) (wrapping_sum (descriptor k) 1) (with_cpu left cpu)
 ld_is k left d p cpu paged is moved =
     on_by k (forms.LoadAt d p) _ (with_cpu left cpu) _
     (ap (λ c. with_cpu left c) moved ∙ ap (λ (l : Kernel). with_cpu l (with_pointer l.mote.cpu p (pointing k p))) is.after
-    ∙ pointer_put k (with_register (core_of k (descriptor k)) d is.byte) (memory_of k) p (pointing k p))
+    ∙ pointer_put k (with_register (core_here k) d is.byte) (memory_of k) p (pointing k p))
     (loads_by k d p paged is.byte is.hit)
 
 abbrev with_store_by : Kernel → Ptr → Cpu → Cpu
@@ -189,17 +184,13 @@ with_store_by k p core = with_pointer core p (pointing k p)
 
 abbrev StoresBy : Kernel → Ptr → (r : ℕ) → Type 0
 StoresBy k p r = StoresAtHand k.mote.sram (pointed_at k p) (register k.mote.cpu r)
-    → WentOn k (forms.StoreAt p r) (wrapping_sum (descriptor k) 1) (put_back k (with_store_by k p (core_of k (descriptor k))) (memory_of (with_sram k (stored_at_hand k.mote.sram (pointed_at k p) (register k.mote.cpu r)))))
+    → WentOn k (forms.StoreAt p r) (wrapping_sum (descriptor k) 1)
+    (put_back k (with_store_by k p (core_here k)) (memory_of (with_sram k (stored_at_hand k.mote.sram (pointed_at k p) (register k.mote.cpu r)))))
 
 stores_by : (k : Kernel) (p : Ptr) (r : ℕ) → IsPaged k.mote.sram k.mote.swap → StoresBy k p r
 unfolding executed exec_of ask_of finish_of with_pointer
 stores_by k ZInc r paged = λ hit. after_store k (forms.StoreAt ZInc r) (with_store_by k ZInc) (pointed_at k ZInc) (register k.mote.cpu r) 1 refl paged hit
-stores_by k ZDec r paged = λ hit. after_store k (forms.StoreAt ZDec r) (with_store_by k ZDec) (pointed_at k ZDec) (register k.mote.cpu r) 1 refl paged hit
-stores_by k YInc r paged = λ hit. after_store k (forms.StoreAt YInc r) (with_store_by k YInc) (pointed_at k YInc) (register k.mote.cpu r) 1 refl paged hit
-stores_by k YDec r paged = λ hit. after_store k (forms.StoreAt YDec r) (with_store_by k YDec) (pointed_at k YDec) (register k.mote.cpu r) 1 refl paged hit
-stores_by k X r paged = λ hit. after_store k (forms.StoreAt X r) (with_store_by k X) (pointed_at k X) (register k.mote.cpu r) 1 refl paged hit
-stores_by k XInc r paged = λ hit. after_store k (forms.StoreAt XInc r) (with_store_by k XInc) (pointed_at k XInc) (register k.mote.cpu r) 1 refl paged hit
-stores_by k XDec r paged = λ hit. after_store k (forms.StoreAt XDec r) (with_store_by k XDec) (pointed_at k XDec) (register k.mote.cpu r) 1 refl paged hit
+stores_by k p r paged = λ hit. after_store k (forms.StoreAt p r) (with_store_by k p) (pointed_at k p) (register k.mote.cpu r) 1 refl paged hit
 
 pub st_is : (k left : Kernel) (p : Ptr) (r : ℕ) (cpu : Cpu) → IsPaged k.mote.sram k.mote.swap → StoresAtHand k.mote.sram (pointed_at k p) (register k.mote.cpu r)
     → left ≡ with_store k (pointed_at k p) (register k.mote.cpu r) → cpu ≡ with_pointer left.mote.cpu p (pointing k p)
@@ -207,7 +198,7 @@ pub st_is : (k left : Kernel) (p : Ptr) (r : ℕ) (cpu : Cpu) → IsPaged k.mote
 st_is k left p r cpu paged hit after moved =
     on_by k (forms.StoreAt p r) _ (with_cpu left cpu) _
     (ap (λ c. with_cpu left c) moved ∙ ap (λ (l : Kernel). with_cpu l (with_pointer l.mote.cpu p (pointing k p))) after
-    ∙ pointer_put k (core_of k (descriptor k)) (memory_of (with_sram k (stored_at_hand k.mote.sram (pointed_at k p) (register k.mote.cpu r)))) p (pointing k p))
+    ∙ pointer_put k (core_here k) (memory_of (with_sram k (stored_at_hand k.mote.sram (pointed_at k p) (register k.mote.cpu r)))) p (pointing k p))
     (stores_by k p r paged hit)
 
 -- one byte of the stack
@@ -218,7 +209,8 @@ unfolding executed exec_of answer_of ask_of finish_of pop pop_from
 pop_is k next d held after =
     let above = wrapping_sum (virtual_sp k) 1 in
     on_by k (forms.Pop d) _ next _ after
-    (ap (λ b. execution_by k (answered_by (finish_of (forms.Pop d) (core_of k (descriptor k)) (next_size (image_held k) (descriptor k))) (answered_by Byte (if b then Went (byte_at k.mote.sram above) (memory_of k) else Stopped (StackStop above))))) (sym held))
+    (ap (λ b. execution_by k (answered_by (finish_of (forms.Pop d) (core_here k) (next_size (image_held k) (descriptor k)))
+    (answered_by Byte (if b then Went (byte_at k.mote.sram above) (memory_of k) else Stopped (StackStop above))))) (sym held))
 
 pub push_is : (k next : Kernel) (r : ℕ) → is_stack (virtual_sp k) ≡ true
     → next ≡ put_back k (with_stack (core_of k 0) (wrapping_difference (virtual_sp k) 1)) (memory_of (with_sram k (with_byte k.mote.sram (virtual_sp k) (register k.mote.cpu r))))
@@ -227,14 +219,17 @@ unfolding executed exec_of answer_of ask_of finish_of push push_on
 push_is k next r held after =
     let sp = virtual_sp k in
     on_by k (forms.Push r) _ next _ after
-    (ap (λ b. execution_by k (answered_by (finish_of (forms.Push r) (core_of k (descriptor k)) (next_size (image_held k) (descriptor k))) (answered_by (λ _. Done) (if b then Went tt (memory_of (with_sram k (with_byte k.mote.sram sp (register k.mote.cpu r)))) else Stopped (StackStop sp))))) (sym held))
+    (ap (λ b. execution_by k (answered_by (finish_of (forms.Push r) (core_here k) (next_size (image_held k) (descriptor k)))
+    (answered_by (λ _. Done) (if b then Went tt (memory_of (with_sram k (with_byte k.mote.sram sp (register k.mote.cpu r)))) else Stopped (StackStop sp))))) (sym held))
 
 -- SPL and SPH
-pub in_low : (k next : Kernel) (d a : ℕ) → a ≡ 0x3D → next ≡ put_back k (with_register (core_of k 0) d (virtual_sp k % 256)) (memory_of k) → WentOn k (forms.InIo d a) (wrapping_sum (descriptor k) 1) next
+pub in_low : (k next : Kernel) (d a : ℕ) → a ≡ 0x3D → next ≡ put_back k (with_register (core_of k 0) d (virtual_sp k % 256)) (memory_of k)
+    → WentOn k (forms.InIo d a) (wrapping_sum (descriptor k) 1) next
 unfolding executed exec_of answer_of ask_of finish_of load_of loaded own_byte
 in_low k next d a is after = subst (λ f. WentOn k (forms.InIo d f) (wrapping_sum (descriptor k) 1) next) (sym is) (on_by k (forms.InIo d 0x3D) _ next _ after refl)
 
-pub in_high : (k next : Kernel) (d a : ℕ) → a ≡ 0x3E → next ≡ put_back k (with_register (core_of k 0) d (virtual_sp k / 256)) (memory_of k) → WentOn k (forms.InIo d a) (wrapping_sum (descriptor k) 1) next
+pub in_high : (k next : Kernel) (d a : ℕ) → a ≡ 0x3E → next ≡ put_back k (with_register (core_of k 0) d (virtual_sp k / 256)) (memory_of k)
+    → WentOn k (forms.InIo d a) (wrapping_sum (descriptor k) 1) next
 unfolding executed exec_of answer_of ask_of finish_of load_of loaded own_byte
 in_high k next d a is after = subst (λ f. WentOn k (forms.InIo d f) (wrapping_sum (descriptor k) 1) next) (sym is) (on_by k (forms.InIo d 0x3E) _ next _ after refl)
 
@@ -252,18 +247,19 @@ out_high k next a r is after = subst (λ f. WentOn k (forms.OutIo f r) (wrapping
 abbrev pub byte_at_z : Kernel → ℕ
 byte_at_z k = byte (image_held k) (pair k.mote.cpu 30)
 
-z_put : (k left : Kernel) (d : ℕ) (inc : Bool) (cpu : Cpu) → left ≡ put_back k (with_register (core_of k (descriptor k)) d (byte_at_z k)) (memory_of k) → cpu ≡ with_z_raised_if left.mote.cpu inc (pair k.mote.cpu 30)
+z_put : (k left : Kernel) (d : ℕ) (inc : Bool) (cpu : Cpu) → left ≡ put_back k (with_register (core_here k) d (byte_at_z k)) (memory_of k)
+    → cpu ≡ with_z_raised_if left.mote.cpu inc (pair k.mote.cpu 30)
     → WentOn k (forms.Lpm d inc) (wrapping_sum (descriptor k) 1) (with_cpu left cpu)
 unfolding executed exec_of answer_of ask_of finish_of
 z_put k left d true cpu after raised =
     on_by k (forms.Lpm d true) _ (with_cpu left cpu) _ (ap (λ c. with_cpu left c) raised ∙ ap (λ (l : Kernel). with_cpu l (with_z_raised_if l.mote.cpu true (pair k.mote.cpu 30))) after) refl
-z_put k left d false cpu after raised =
-    on_by k (forms.Lpm d false) _ (with_cpu left cpu) _ (ap (λ c. with_cpu left c) raised ∙ ap (λ (l : Kernel). with_cpu l (with_z_raised_if l.mote.cpu false (pair k.mote.cpu 30))) after) refl
+z_put k left d inc cpu after raised =
+    on_by k (forms.Lpm d inc) _ (with_cpu left cpu) _ (ap (λ c. with_cpu left c) raised ∙ ap (λ (l : Kernel). with_cpu l (with_z_raised_if l.mote.cpu inc (pair k.mote.cpu 30))) after) refl
 
 pub lpm_is : (k left : Kernel) (d z value : ℕ) (inc : Bool) (cpu : Cpu) → z ≡ pair k.mote.cpu 30 → value ≡ byte (image_held k) z → left ≡ put_back k (with_register (core_of k 0) d value) (memory_of k)
     → cpu ≡ with_z_raised_if left.mote.cpu inc z → WentOn k (forms.Lpm d inc) (wrapping_sum (descriptor k) 1) (with_cpu left cpu)
 lpm_is k left d z value inc cpu there read after raised =
-    z_put k left d inc cpu (after ∙ ap (λ v. put_back k (with_register (core_of k (descriptor k)) d v) (memory_of k)) (read ∙ ap (byte (image_held k)) there))
+    z_put k left d inc cpu (after ∙ ap (λ v. put_back k (with_register (core_here k) d v) (memory_of k)) (read ∙ ap (byte (image_held k)) there))
     (raised ∙ ap (with_z_raised_if left.mote.cpu inc) there)
 
 -- an instruction that reads no word of the program may be executed, and LPM where nothing is shut
@@ -271,15 +267,16 @@ pub done_by : (k next : Kernel) (form : Form) (pc : ℕ) → instruction k ≡ S
 done_by k next form pc is apart went = record {
   form = form;
   is = is;
-  reads = ap (foreign_in k) is ∙ ap (if_foreign k.part) (asks_none (stored_byte k.mote.devices rampz_address) form (core_of k (descriptor k)) apart);
+  reads = ap (foreign_in k) is ∙ ap (if_foreign k.part) (asks_none (stored_byte k.mote.devices rampz_address) form (core_here k) apart);
   pc = pc;
   went = went;
 }
 
-pub read_by_lpm : (k next : Kernel) (d : ℕ) (inc : Bool) → instruction k ≡ Some (forms.Lpm d inc) → k.part.shut ≡ false → WentOn k (forms.Lpm d inc) (wrapping_sum (descriptor k) 1) next → IsExecuted k next
+pub read_by_lpm : (k next : Kernel) (d : ℕ) (inc : Bool) → instruction k ≡ Some (forms.Lpm d inc) → k.part.shut ≡ false → WentOn k (forms.Lpm d inc) (wrapping_sum (descriptor k) 1) next
+    → IsExecuted k next
 unfolding ask_of
 read_by_lpm k next d inc is unshut went =
-    let word = pair (core_of k (descriptor k)) 30 / 2 in
+    let word = pair (core_here k) 30 / 2 in
     record {
       form = forms.Lpm d inc;
       is = is;

@@ -30,13 +30,13 @@ use Rattle.flat_machine.specs.declared.address.AddrClass.TheVariants.{Io}
 use Rattle.flat_machine.specs.Classes.{class_of}
 use Rattle.flat_machine.proofs.ClassLaws.{load_in, store_in, load_by_class, store_by_class}
 use Rattle.flat_machine.specs.FlatSpace.{FlatSpace, flat_calls, from_device, to_device}
-use Rattle.flat_machine.specs.FlatMachine.{slept as slept_at}
-use Rattle.flat_machine.specs.FlatMachine.{Stops, Io as IoEnd, tried, stepped, next_size, jumps_to_itself}
+use Rattle.flat_machine.specs.FlatMachine.{slept as slept_at, Stops, Io as IoEnd, tried, stepped, next_size, jumps_to_itself}
 use Rattle.flat_machine.proofs.MachineLaws.{tried_illegal, tried_spm, tried_sleep, tried_step}
+use Rattle.kernel_entry.proofs.LeftLaws.{core_here}
 use Rattle.kernel_entry.specs.declared.kernel.Kernel.{Kernel}
 use Rattle.flat_machine.proofs.ReadLaws.{reads_program}
 use Rattle.mem_guard.proofs.GuardedStep.{reads_own}
-use Rattle.kernel_entry.specs.Parts.{descriptor, instruction, memory_of, core_of, image_held}
+use Rattle.kernel_entry.specs.Parts.{descriptor, instruction, memory_of, image_held}
 use Rattle.kernel_entry.specs.Services.{is_sleep, fault_of}
 use Rattle.kernel_entry.specs.Seen.{space_of, program, state_at, end_of}
 use Rattle.kernel_entry.specs.Conditions.{shape_behind}
@@ -115,10 +115,10 @@ abbrev TriedSo : Kernel → Option Form → Type 0
 TriedSo k form = is_sleep form ≡ false → (s c : ℕ) → tried (program k) (state_at k (descriptor k) s c) ≡ Stops (end_of (fault_of (descriptor k) form))
 
 io_stops : (k : Kernel) (b : ℕ) (form : Form) → instruction k ≡ Some form → is_executed form ≡ true → reads_program form ≡ false → jumps_to_itself (descriptor k) form ≡ false
-    → answer_of flat_calls (space_of k) (ask_of form (core_of k (descriptor k))) ≡ Stopped (IoStop b) → (s c : ℕ) → tried (program k) (state_at k (descriptor k) s c) ≡ Stops (IoEnd (descriptor k) b)
+    → answer_of flat_calls (space_of k) (ask_of form (core_here k)) ≡ Stopped (IoStop b) → (s c : ℕ) → tried (program k) (state_at k (descriptor k) s c) ≡ Stops (IoEnd (descriptor k) b)
 io_stops k b form is runs reads apart stopped s c =
-    tried_step (program k) (state_at k (descriptor k) s c) form is runs (reads_own k.part (memory_of k) (core_of k (descriptor k)) form reads) (ap (λ b. b && not (has_bit k.mote.cpu.sreg interrupts)) apart)
-    ∙ ap (stepped (state_at k (descriptor k) s c)) (exec_stopped flat_calls form (core_of k (descriptor k)) (space_of k) (next_size (image_held k) (descriptor k)) (IoStop b) stopped)
+    tried_step (program k) (state_at k (descriptor k) s c) form is runs (reads_own k.part (memory_of k) (core_here k) form reads) (ap (λ b. b && not (has_bit k.mote.cpu.sreg interrupts)) apart)
+    ∙ ap (stepped (state_at k (descriptor k) s c)) (exec_stopped flat_calls form (core_here k) (space_of k) (next_size (image_held k) (descriptor k)) (IoStop b) stopped)
 
 some_tries : (k : Kernel) (form : Form) → instruction k ≡ Some form → IsTrue (is_valid form) → shape_of_form (descriptor k) form ≡ Fault → TriedSo k (Some form)
 unfolding shape_of_form is_executed ask_of is_valid fields_in_range is_undefined
@@ -131,7 +131,8 @@ some_tries k (forms.InIo d q) is valid shape =
 some_tries k (forms.OutIo q r) is valid shape =
     let t = fault_io (is_stack_pointer q) (can_write (io_address q)) shape in
     let low = six_right r q valid in
-    λ none. io_stops k (q + 0x20) (forms.OutIo q r) is refl refl refl (refused_store (space_of k) (q + 0x20) (register (core_of k (descriptor k)) r) (omega arith) (own_write q (is_own (q + 0x20)) refl low t.0 t.1) t.1)
+    λ none. io_stops k (q + 0x20) (forms.OutIo q r) is refl refl refl
+    (refused_store (space_of k) (q + 0x20) (register (core_here k) r) (omega arith) (own_write q (is_own (q + 0x20)) refl low t.0 t.1) t.1)
 some_tries k (forms.Cbi q b) is valid shape =
     λ none. io_stops k (q + 0x20) (forms.Cbi q b) is refl refl refl (refused_modify (space_of k) (q + 0x20) (2 ^ b) 0 (fault_one (can_modify (io_address q)) Native (λ e. cc) shape))
 some_tries k (forms.Sbi q b) is valid shape =

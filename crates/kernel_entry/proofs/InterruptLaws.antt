@@ -1,7 +1,6 @@
 -- An interrupt that is taken is the original program's.
-use Rattle.std.specs.Prelude.{◌<◌}
+use Rattle.std.specs.Prelude.{◌<◌, ◌≢◌, ◌==◌, not, None, Result, Ok, Err, ◌&&◌}
 use Rattle.std.proofs.Common.{arith, ◌≡◌, ℕ, ◌+◌, Bool, true, false, cond, refl, sym, ap, ap₂, subst, ◌∙◌}
-use Rattle.std.specs.Prelude.{◌≢◌, ◌==◌, not, None, Result, Ok, Err, ◌&&◌}
 use Rattle.std.proofs.lemmas.Bool.Decides.{nat_tests}
 use Rattle.std.proofs.lemmas.Bool.{and_right}
 use Rattle.avr_flags.specs.Status.{has_bit, with_bit, interrupts}
@@ -15,9 +14,9 @@ use Rattle.heap_frames.specs.Paged.{IsPaged}
 use Rattle.sram_layout.specs.Bytes.{byte_at, with_word}
 use Rattle.sram_layout.specs.Cells.{count_cell, vsp_cell}
 use Rattle.sram_layout.specs.Regions.{KeepsRegion, place_cells}
-use Rattle.sram_layout.proofs.Laws.{byte_out_of_word, word_low}
+use Rattle.sram_layout.proofs.Laws.{word_low}
 use Rattle.heap_frames.proofs.SamePagingLaws.{paged_same}
-use Rattle.kernel_entry.proofs.LeftLaws.{same_stored}
+use Rattle.kernel_entry.proofs.LeftLaws.{same_stored, view_put, word_kept}
 use Rattle.kernel_entry.specs.declared.kernel.Stop.{Stop}
 use Rattle.mote_devices.specs.State.{State as Devices}
 use Rattle.mote_devices.specs.Waking.{enabled, is_enabled, with_taken}
@@ -34,8 +33,7 @@ use Rattle.kernel_entry.specs.Parts.{virtual_sp, memory_of}
 use Rattle.kernel_entry.specs.Services.{stop_of}
 use Rattle.kernel_entry.specs.Interrupts.{is_wanted, pushed, pushed_by, taken, taken_by}
 use Rattle.kernel_entry.specs.Seen.{View, program, state_at, end_of}
-use Rattle.kernel_entry.proofs.ViewLaws.{view_put}
-use Rattle.kernel_entry.proofs.TriedLaws.{end_stop}
+use Rattle.kernel_entry.proofs.RowLaws.{end_stop}
 
 -- a return address that is pushed leaves the devices
 abbrev SameDevices : Guarded → Outcome Guarded (Unit {0}) → Type 0
@@ -50,13 +48,20 @@ pub push_devices : (g : Guarded) (sp ret : ℕ) → SameDevices g (push_return g
 unfolding push_return push_return_on
 push_devices g sp ret = two_kept (is_stack sp) (is_stack (wrapping_difference sp 1)) g _ _ _ refl
 
+-- what a push keeps of the memory, and the answer with the interrupt of the lowest number
+abbrev KeepsAll : Kernel → Guarded → Type 0
+KeepsAll k next = IsKept (memory_of k) next × KeepsHeap (memory_of k) next
+
+abbrev taken_first : Kernel → ℕ → Taken × Kernel
+taken_first k target = taken_by k (lowest (enabled k.mote.devices)) target (pushed k target).0 (pushed k target).1
+
 -- what an answer says of the original program's next step
 abbrev pub AsTaken : Kernel → ℕ → Taken × Kernel → Type 0
 AsTaken k target (answers.Nothing, new) = ⊥
 AsTaken k target (answers.Vector v, new) = (s c : ℕ) → next_of (program k) (record { now = state_at k target s c; due = true }) ≡ On None (record { now = state_at new v (s + 1) c; due = false })
 AsTaken k target (answers.Stopped stop, new) = (s c : ℕ) → next_of (program k) (record { now = state_at k target s c; due = true }) ≡ Ends (end_of stop)
 
-taken_as : (k : Kernel) (target : ℕ) (o : Outcome Guarded (Unit {0})) → push_return (memory_of k) (virtual_sp k) target ≡ o → IsPaged k.mote.sram k.mote.swap → Leaves (λ next. IsKept (memory_of k) next × KeepsHeap (memory_of k) next) o
+taken_as : (k : Kernel) (target : ℕ) (o : Outcome Guarded (Unit {0})) → push_return (memory_of k) (virtual_sp k) target ≡ o → IsPaged k.mote.sram k.mote.swap → Leaves (KeepsAll k) o
     → ((s c : ℕ) → next_of (program k) (record { now = state_at k target s c; due = true }) ≡ interrupted (program k) (state_at k target s c))
     → AsTaken k target (taken_by k (lowest (enabled k.mote.devices)) target (pushed_by k o).0 (pushed_by k o).1)
 taken_as k target (Stopped stop) is paged left here = λ s c.
@@ -75,11 +80,12 @@ taken_as k target (Went done g) is paged left here = λ s c.
         crossings = c;
       };
       due = false;
-    })) (sym (view_put k (record { r = k.mote.cpu.r; sreg = with_bit k.mote.cpu.sreg interrupts false; sp = wrapping_difference (virtual_sp k) 2; pc = vector k.part n }) (record g { devices = with_taken g.devices n }) left.0.paged.sized.sram))
+    })) (sym (view_put k (record { r = k.mote.cpu.r; sreg = with_bit k.mote.cpu.sreg interrupts false; sp = wrapping_difference (virtual_sp k) 2; pc = vector k.part n })
+    (record g { devices = with_taken g.devices n }) left.0.paged.sized.sram))
 
 -- none is taken where interrupts are off, or none is enabled
 untaken : (k : Kernel) (target : ℕ) → is_wanted k ≡ false → (answers.Nothing, k) ≡ taken k target
-untaken k target off = sym (ap (λ b. cond b (taken_by k (lowest (enabled k.mote.devices)) target (pushed k target).0 (pushed k target).1) (answers.Nothing, k)) off)
+untaken k target off = sym (ap (λ b. cond b (taken_first k target) (answers.Nothing, k)) off)
 
 pub taken_off : (k : Kernel) (target : ℕ) → has_bit k.mote.cpu.sreg interrupts ≡ false → (answers.Nothing, k) ≡ taken k target
 taken_off k target off = untaken k target (ap (λ b. b && is_enabled k.mote.devices) off)
@@ -91,10 +97,11 @@ some_enabled : (d : Devices) (n : ℕ) → n ≡ enabled d → n ≢ 0 → is_en
 some_enabled d n is some = let apart : enabled d ≢ 0 = (λ none. some (is ∙ none)) in grind (arith, nat_tests)
 
 taken_is : (k : Kernel) (target : ℕ) → has_bit k.mote.cpu.sreg interrupts ≡ true → is_enabled k.mote.devices ≡ true
-    → taken k target ≡ taken_by k (lowest (enabled k.mote.devices)) target (pushed k target).0 (pushed k target).1
-taken_is k target on some = ap₂ (λ a b. cond (a && b) (taken_by k (lowest (enabled k.mote.devices)) target (pushed k target).0 (pushed k target).1) (answers.Nothing, k)) on some
+    → taken k target ≡ taken_first k target
+taken_is k target on some = ap₂ (λ a b. cond (a && b) (taken_first k target) (answers.Nothing, k)) on some
 
-pub taken_stops : (k next : Kernel) (target n : ℕ) (stop : BusStop) → n ≡ enabled k.mote.devices → n ≢ 0 → has_bit k.mote.cpu.sreg interrupts ≡ true → ◌≡◌ {A = Result (Unit {0}) BusStop × Kernel} (Err stop, next) (pushed k target)
+pub taken_stops : (k next : Kernel) (target n : ℕ) (stop : BusStop) → n ≡ enabled k.mote.devices → n ≢ 0 → has_bit k.mote.cpu.sreg interrupts ≡ true
+    → ◌≡◌ {A = Result (Unit {0}) BusStop × Kernel} (Err stop, next) (pushed k target)
     → (answers.Stopped (stop_of target stop), next) ≡ taken k target
 taken_stops k next target n stop is some on told =
     ap (λ (p : Result (Unit {0}) BusStop × Kernel). taken_by k (lowest (enabled k.mote.devices)) target p.0 p.1) told ∙ sym (taken_is k target on (some_enabled k.mote.devices n is some))
@@ -113,7 +120,7 @@ taken_goes k next target n number place sreg devices is some on least there told
 -- where interrupts are on and one is enabled, it is taken as the original program takes it
 pub interrupt_taken : (k : Kernel) (target : ℕ) → has_bit k.mote.cpu.sreg interrupts ≡ true → is_enabled k.mote.devices ≡ true → IsPaged k.mote.sram k.mote.swap → AsTaken k target (taken k target)
 interrupt_taken k target on some paged =
-    subst (AsTaken k target) (sym (taken_is k target on some))
+    rw (taken_is k target on some)
     (taken_as k target (push_return (memory_of k) (virtual_sp k) target) refl paged (push_return_leaves_kept (memory_of k) (virtual_sp k) target paged)
     (λ s c. next_taken (program k) (record { now = state_at k target s c; due = true }) (ap₂ (λ a b. a && b) on some)))
 
@@ -136,7 +143,7 @@ abbrev pub KeepsIf : Kernel → Taken × Kernel → Type 0
 KeepsIf k (answers.Vector v, new) = KeepsTaken k new
 KeepsIf k (_, new) = new ≡ k
 
-pub keeps_as : (k : Kernel) (n target : ℕ) (o : Outcome Guarded (Unit {0})) → Leaves (λ next. IsKept (memory_of k) next × KeepsHeap (memory_of k) next) o → SameDevices (memory_of k) o → KeepsIf k (taken_by k n target (pushed_by k o).0 (pushed_by k o).1)
+pub keeps_as : (k : Kernel) (n target : ℕ) (o : Outcome Guarded (Unit {0})) → Leaves (KeepsAll k) o → SameDevices (memory_of k) o → KeepsIf k (taken_by k n target (pushed_by k o).0 (pushed_by k o).1)
 keeps_as k n target (Stopped stop) left same = refl
 keeps_as k n target (Went done g) left same = record {
   layout = refl;
@@ -148,21 +155,23 @@ keeps_as k n target (Went done g) left same = record {
   top = refl;
   polls = ap (λ (d : Devices). d.polls) same;
   paged = paged_same g.sram (with_word g.sram vsp_cell (wrapping_difference (virtual_sp k) 2)) g.swap (same_stored g.sram (wrapping_difference (virtual_sp k) 2)) left.0.paged;
-  count = byte_out_of_word g.sram vsp_cell count_cell (wrapping_difference (virtual_sp k) 2) (omega arith) (omega arith) (λ e. omega arith) (λ e. omega arith) ∙ left.0.cells count_cell (omega arith) (omega arith);
-  tables = λ b low high. byte_out_of_word g.sram vsp_cell b (wrapping_difference (virtual_sp k) 2) (omega arith) (omega arith) (λ e. omega arith) (λ e. omega arith) ∙ left.0.tables b (omega arith) high;
+  count = word_kept g.sram (wrapping_difference (virtual_sp k) 2) count_cell (omega arith) ∙ left.0.cells count_cell (omega arith) (omega arith);
+  tables = λ b low high. word_kept g.sram (wrapping_difference (virtual_sp k) 2) b (omega arith) ∙ left.0.tables b (omega arith) high;
   pointer = let size = left.0.paged.sized.sram in omega (arith, word_low g.sram vsp_cell (wrapping_difference (virtual_sp k) 2) (omega arith) (omega arith));
 }
 
-pub interrupt_keeps : (k : Kernel) (target v : ℕ) (new : Kernel) → has_bit k.mote.cpu.sreg interrupts ≡ true → is_enabled k.mote.devices ≡ true → IsPaged k.mote.sram k.mote.swap → taken k target ≡ (answers.Vector v, new) → KeepsTaken k new
+keeps_first : (k : Kernel) (target : ℕ) → has_bit k.mote.cpu.sreg interrupts ≡ true → is_enabled k.mote.devices ≡ true → IsPaged k.mote.sram k.mote.swap → KeepsIf k (taken k target)
+keeps_first k target on some paged =
+    let g = memory_of k in
+    rw (taken_is k target on some) (keeps_as k (lowest (enabled k.mote.devices)) target (push_return g (virtual_sp k) target) (push_return_leaves_kept g (virtual_sp k) target paged)
+    (push_devices g (virtual_sp k) target))
+
+pub interrupt_keeps : (k : Kernel) (target v : ℕ) (new : Kernel) → has_bit k.mote.cpu.sreg interrupts ≡ true → is_enabled k.mote.devices ≡ true → IsPaged k.mote.sram k.mote.swap
+    → taken k target ≡ (answers.Vector v, new) → KeepsTaken k new
 interrupt_keeps k target v new on some paged is =
-    subst (KeepsIf k) (sym (taken_is k target on some) ∙ is)
-    (keeps_as k (lowest (enabled k.mote.devices)) target (push_return (memory_of k) (virtual_sp k) target) (push_return_leaves_kept (memory_of k) (virtual_sp k) target paged) (push_devices (memory_of k) (virtual_sp k) target))
+    subst (KeepsIf k) is (keeps_first k target on some paged)
 
-stays_as : (k : Kernel) (n target : ℕ) (o : Outcome Guarded (Unit {0})) → KeepsIf k (taken_by k n target (pushed_by k o).0 (pushed_by k o).1) → (stop : Stop) (new : Kernel) → taken_by k n target (pushed_by k o).0 (pushed_by k o).1 ≡ (answers.Stopped stop, new) → new ≡ k
-stays_as k n target o keeps stop new is = subst (KeepsIf k) is keeps
-
-pub interrupt_stays : (k : Kernel) (target : ℕ) (stop : Stop) (new : Kernel) → has_bit k.mote.cpu.sreg interrupts ≡ true → is_enabled k.mote.devices ≡ true → IsPaged k.mote.sram k.mote.swap → taken k target ≡ (answers.Stopped stop, new) → new ≡ k
+pub interrupt_stays : (k : Kernel) (target : ℕ) (stop : Stop) (new : Kernel) → has_bit k.mote.cpu.sreg interrupts ≡ true → is_enabled k.mote.devices ≡ true → IsPaged k.mote.sram k.mote.swap
+    → taken k target ≡ (answers.Stopped stop, new) → new ≡ k
 interrupt_stays k target stop new on some paged is =
-    stays_as k (lowest (enabled k.mote.devices)) target (push_return (memory_of k) (virtual_sp k) target)
-    (keeps_as k (lowest (enabled k.mote.devices)) target (push_return (memory_of k) (virtual_sp k) target) (push_return_leaves_kept (memory_of k) (virtual_sp k) target paged) (push_devices (memory_of k) (virtual_sp k) target))
-    stop new (sym (taken_is k target on some) ∙ is)
+    subst (KeepsIf k) is (keeps_first k target on some paged)

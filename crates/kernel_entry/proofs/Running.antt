@@ -112,7 +112,8 @@ due_is k r is = ap (λ (x : Served × Kernel). due_by k.mote.cpu.pc (descriptor 
 no_quantum : (pc : ℕ) → return_entry ≤ pc → (pc == quantum_entry) ≡ false
 no_quantum pc above = grind (arith, nat_tests)
 
-pub due_behind : (k next : Kernel) (ran : Ran) (count : ℕ) → return_entry ≤ k.mote.cpu.pc → count ≡ byte_at k.mote.sram count_cell → gone_by k (Ok ran) next ≡ served k → is_checkpoint (descriptor k) ran.pc count ≡ is_due k
+pub due_behind : (k next : Kernel) (ran : Ran) (count : ℕ) → return_entry ≤ k.mote.cpu.pc → count ≡ byte_at k.mote.sram count_cell → gone_by k (Ok ran) next ≡ served k
+    → is_checkpoint (descriptor k) ran.pc count ≡ is_due k
 due_behind k next ran count above same is =
     ap (is_checkpoint (descriptor k) ran.pc) same
     ∙ ap (λ (b : Bool). b || is_checkpoint (descriptor k) ran.pc (byte_at k.mote.sram count_cell)) (sym (no_quantum k.mote.cpu.pc above))

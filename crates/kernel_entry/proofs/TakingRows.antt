@@ -38,7 +38,8 @@ nothing_row k target off paged = record {
   paged = paged;
 }
 
-stopped_row : (k : Kernel) (target address : ℕ) → is_wanted k ≡ true → first_outside (virtual_sp k) ≡ Some address → IsPaged k.mote.sram k.mote.swap → Row k target (answers.Stopped (Stack target address), k)
+stopped_row : (k : Kernel) (target address : ℕ) → is_wanted k ≡ true → first_outside (virtual_sp k) ≡ Some address → IsPaged k.mote.sram k.mote.swap
+    → Row k target (answers.Stopped (Stack target address), k)
 stopped_row k target address on outside paged = record {
   nothing = (λ e. absurd (cc), λ e. absurd (not_both (is_wanted k) on e));
   stopped = λ stop. (
@@ -81,11 +82,13 @@ push_by g sp ret b c first second =
 outside_by : (sp : ℕ) (b c : Bool) → is_stack sp ≡ b → is_stack (wrapping_difference sp 1) ≡ c → first_outside sp ≡ cond b (cond c None (Some (wrapping_difference sp 1))) (Some sp)
 outside_by sp b c first second = ap₂ (λ x y. cond x (cond y None (Some (wrapping_difference sp 1))) (Some sp)) first second
 
-row_by : (k : Kernel) (target : ℕ) (b c : Bool) → is_wanted k ≡ true → is_stack (virtual_sp k) ≡ b → is_stack (wrapping_difference (virtual_sp k) 1) ≡ c → IsPaged k.mote.sram k.mote.swap → Row k target (taken k target)
+row_by : (k : Kernel) (target : ℕ) (b c : Bool) → is_wanted k ≡ true → is_stack (virtual_sp k) ≡ b → is_stack (wrapping_difference (virtual_sp k) 1) ≡ c → IsPaged k.mote.sram k.mote.swap
+    → Row k target (taken k target)
 row_by k target true true on first second paged =
     let push = push_by (memory_of k) (virtual_sp k) target true true first second in
     let keeps = subst (λ o. KeepsIf k (taken_by k (least k) target (pushed_by k o).0 (pushed_by k o).1)) push
-    (keeps_as k (least k) target (push_return (memory_of k) (virtual_sp k) target) (push_return_leaves_kept (memory_of k) (virtual_sp k) target paged) (push_devices (memory_of k) (virtual_sp k) target)) in
+    (keeps_as k (least k) target (push_return (memory_of k) (virtual_sp k) target) (push_return_leaves_kept (memory_of k) (virtual_sp k) target paged)
+    (push_devices (memory_of k) (virtual_sp k) target)) in
     subst (Row k target) (sym (is_taken k target _ on push)) (vector_row k target on (outside_by (virtual_sp k) true true first second) keeps.paged)
 row_by k target true false on first second paged =
     subst (Row k target) (sym (is_taken k target _ on (push_by (memory_of k) (virtual_sp k) target true false first second)))

@@ -7,7 +7,8 @@ use Rattle.heap_frames.specs.Frames.{pages}
 use Rattle.heap_frames.specs.Memory.{vmem}
 use Rattle.mote_devices.specs.State.{State}
 use Rattle.flat_machine.specs.FlatSpace.{FlatSpace}
-use Rattle.flat_machine.specs.FlatMachine.{Program, FlatState, End, Halted as HaltedEnd, Asleep as AsleepEnd, Read as ReadEnd, Illegal as IllegalEnd, SelfProgram as SelfProgramEnd, Io as IoEnd, Stack as StackEnd, SwapFull as SwapFullEnd}
+use Rattle.flat_machine.specs.FlatMachine.{Program, FlatState, End, Halted as HaltedEnd, Asleep as AsleepEnd, Read as ReadEnd, Illegal as IllegalEnd, SelfProgram as SelfProgramEnd, Io as IoEnd}
+use Rattle.flat_machine.specs.FlatMachine.{Stack as StackEnd, SwapFull as SwapFullEnd}
 use Rattle.mem_guard.specs.Guarded.{flat_of, state_of, program_of}
 use Rattle.kernel_entry.specs.declared.kernel.Kernel.{Kernel}
 use Rattle.kernel_entry.specs.declared.kernel.Stop.{Stop}

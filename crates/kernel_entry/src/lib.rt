@@ -14,8 +14,10 @@
 //! }
 //! ```
 //!
-//! [`serve_told`] says besides whether an interrupt may be taken next; [`interrupt`] then takes one, if any.
-//! [`resume_at_once`] and [`return_at_once`] serve what reaches bytes at hand, by a shorter way. [`Owed`] and [`End`] say
+//! A run tries [`resume_at_once`] and [`return_at_once`] first, which serve what reaches bytes at hand by a shorter way, and
+//! calls [`serve_told`] for the rest; that says besides whether an interrupt may be taken next, and [`interrupt`] then takes
+//! one, if any. It and [`serve`], the plain form with the longer contract, which tests alone call, read the descriptor and
+//! go on in `serve_at`, which leaves to `serve_apart` the services that execute no instruction. [`Owed`] and [`End`] say
 //! where a run stands between two services, and how it ends.
 //!
 //! docs/LOADER.md has the entries and what each service does. `specs/Services` is that as one function of

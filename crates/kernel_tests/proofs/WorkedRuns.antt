@@ -1,6 +1,7 @@
 -- Worked values: which instructions end a run, what closes one, and a page with a call in its midst.
 use Rattle.std.proofs.Common.{◌≡◌, ℕ, ◌<◌, ◌/◌, Bool, true, false, List, [], ◌∷◌, length, map, arith, refl, below_none, below_more}
-use Rattle.avr_decode.specs.Decoding.{the_form, if_defined, defined_form, one_word_form, two_word_form, form_0000, form_1001, form_1111, move_or_product_form, transfer_form, store_form, register_or_pair_form, one_register_form, flag_or_plain_form, plain_form, register_bit_form, is_long}
+use Rattle.avr_decode.specs.Decoding.{the_form, if_defined, defined_form, one_word_form, two_word_form, form_0000, form_1001, form_1111, move_or_product_form, transfer_form, store_form}
+use Rattle.avr_decode.specs.Decoding.{register_or_pair_form, one_register_form, flag_or_plain_form, plain_form, register_bit_form, is_long}
 use Rattle.avr_isa.specs.Encoding.{first_word}
 use Rattle.avr_isa.specs.UndefinedPairs.{is_undefined}
 use Rattle.avr_isa.specs.Addresses.{relative}
@@ -60,7 +61,8 @@ unfolding the_form if_defined defined_form one_word_form is_long is_undefined re
 run_with_a_call = record {
   inside = λ i most. below_three (λ i. address called 0 i < length called) (omega arith) (omega arith) (omega arith) i (omega arith);
   paged = λ i most. below_three (λ i. address called 0 i / page_words ≡ 0 / page_words) refl refl refl i (omega arith);
-  goes_on = λ i below. below_more (λ i. ends_at called (address called 0 i) ≡ false) 1 (below_more (λ i. ends_at called (address called 0 i) ≡ false) 0 (below_none (λ i. ends_at called (address called 0 i) ≡ false)) refl) refl i below;
+  goes_on = λ i below. below_more (λ i. ends_at called (address called 0 i) ≡ false) 1
+      (below_more (λ i. ends_at called (address called 0 i) ≡ false) 0 (below_none (λ i. ends_at called (address called 0 i) ≡ false)) refl) refl i below;
 }
 
 -- the page: the original page and the number of entries, the map, LDI, the call with a stub to 3, and the halt

@@ -11,12 +11,6 @@ const COUNTED: [u16; 22] = [
     0x0102, 0xBF8F, 0x9180, 0x0101, 0x940E, 0xF000, 1, 0x940E, 0xF002, 1,
 ];
 
-/// BRNE back to address 1, over a jump over the same stub.
-const COUNTED_BRANCH: [u16; 24] = [
-    0xF409, 0xC016, 0x9380, 0x0101, 0xB78F, 0x9380, 0x0102, 0x9180, 0x0100, 0x958A, 0x9380, 0x0100,
-    0xF041, 0x9180, 0x0102, 0xBF8F, 0x9180, 0x0101, 0x940E, 0xF000, 1, 0x940E, 0xF002, 1,
-];
-
 /// An address, a word and the one behind it, and the template.
 const STUBS: [(u16, u16, u16, &[u16]); 10] = [
     (0, 0xE003, 0x950A, &[0xE003]),
@@ -39,44 +33,41 @@ fn templates_of_one_call_or_stub(rt: HostRuntime) {
     }
 }
 
-/// PUSH r16 at 0x1234. The words are assembled from the manual, as those below are.
-const PUSH: [u16; 39] = [
-    0x93E0, 0x0105, 0x93F0, 0x0106, 0xB7EF, 0x93E0, 0x0102, // Z and SREG into their cells
+/// What all inline templates begin with: Z and SREG into their cells.
+const BEGIN: [u16; 7] = [0x93E0, 0x0105, 0x93F0, 0x0106, 0xB7EF, 0x93E0, 0x0102];
+
+/// What they end with at 0x1234.
+const END: [u16; 18] = [
+    0x91E0, 0x0102, 0xBFEF, 0x91E0, 0x0105, 0x91F0, 0x0106, 0xC00A, // back; RJMP 10
+    0x91E0, 0x0102, 0xBFEF, 0x91E0, 0x0105, 0x91F0, 0x0106, 0x940E, 0xF004, 0x1234, // CALL MEM
+];
+
+/// What stands between for PUSH r16. The words are assembled from the manual, as those below are.
+const PUSH: [u16; 14] = [
     0x91E0, 0x0103, 0x91F0, 0x0104, // LDS r30, SPL; LDS r31, SPH
     0x30FD, 0xF080, 0x31F1, 0xF470, // CPI r31, 0x0D; BRLO 16; CPI r31, 0x11; BRSH 14
     0x8300, 0x9731, 0x93E0, 0x0103, 0x93F0, 0x0104, // ST Z, r16; SBIW r30, 1; STS; STS
-    0x91E0, 0x0102, 0xBFEF, 0x91E0, 0x0105, 0x91F0, 0x0106, 0xC00A, // back; RJMP 10
-    0x91E0, 0x0102, 0xBFEF, 0x91E0, 0x0105, 0x91F0, 0x0106, 0x940E, 0xF004, 0x1234, // CALL MEM
 ];
 
-/// POP r16 at 0x1234.
-const POP: [u16; 39] = [
-    0x93E0, 0x0105, 0x93F0, 0x0106, 0xB7EF, 0x93E0, 0x0102, // Z and SREG into their cells
+/// For POP r16.
+const POP: [u16; 14] = [
     0x91E0, 0x0103, 0x91F0, 0x0104, 0x9631, // LDS r30, SPL; LDS r31, SPH; ADIW r30, 1
     0x30FD, 0xF078, 0x31F1, 0xF468, // CPI r31, 0x0D; BRLO 15; CPI r31, 0x11; BRSH 13
     0x8100, 0x93E0, 0x0103, 0x93F0, 0x0104, // LD r16, Z; STS; STS
-    0x91E0, 0x0102, 0xBFEF, 0x91E0, 0x0105, 0x91F0, 0x0106, 0xC00A, // back; RJMP 10
-    0x91E0, 0x0102, 0xBFEF, 0x91E0, 0x0105, 0x91F0, 0x0106, 0x940E, 0xF004, 0x1234, // CALL MEM
 ];
 
-/// LDD r16, Y+1 at 0x1234.
-const LOAD: [u16; 32] = [
-    0x93E0, 0x0105, 0x93F0, 0x0106, 0xB7EF, 0x93E0, 0x0102, // Z and SREG into their cells
+/// For LDD r16, Y+1.
+const LOAD: [u16; 7] = [
     0x01FE, 0x9631, // MOVW r30, r28; ADIW r30, 1
     0x30FD, 0xF058, 0x31F1, 0xF448, // CPI r31, 0x0D; BRLO 11; CPI r31, 0x11; BRSH 9
     0x8100, // LD r16, Z
-    0x91E0, 0x0102, 0xBFEF, 0x91E0, 0x0105, 0x91F0, 0x0106, 0xC00A, // back; RJMP 10
-    0x91E0, 0x0102, 0xBFEF, 0x91E0, 0x0105, 0x91F0, 0x0106, 0x940E, 0xF004, 0x1234, // CALL MEM
 ];
 
-/// STD Y+1, r16 at 0x1234.
-const STORE: [u16; 32] = [
-    0x93E0, 0x0105, 0x93F0, 0x0106, 0xB7EF, 0x93E0, 0x0102, // Z and SREG into their cells
+/// For STD Y+1, r16.
+const STORE: [u16; 7] = [
     0x01FE, 0x9631, // MOVW r30, r28; ADIW r30, 1
     0x30FD, 0xF058, 0x31F1, 0xF448, // CPI r31, 0x0D; BRLO 11; CPI r31, 0x11; BRSH 9
     0x8300, // ST Z, r16
-    0x91E0, 0x0102, 0xBFEF, 0x91E0, 0x0105, 0x91F0, 0x0106, 0xC00A, // back; RJMP 10
-    0x91E0, 0x0102, 0xBFEF, 0x91E0, 0x0105, 0x91F0, 0x0106, 0x940E, 0xF004, 0x1234, // CALL MEM
 ];
 
 /// The template at 0x1234 of an instruction of one word.
@@ -84,31 +75,42 @@ fn inline(first: u16) -> ArrayVec<u16, 64> {
     template(0x1234, first, 0xFFFF, 1)
 }
 
-/// The template with the word at one place exchanged.
-fn with_word(template: &[u16], place: usize, word: u16) -> ArrayVec<u16, 64> {
+/// These words in a row.
+fn joined(parts: &[&[u16]]) -> ArrayVec<u16, 64> {
     let mut words = ArrayVec::new();
-    for (i, old) in template.iter().enumerate() {
-        let _ = words.try_push(if i == place { word } else { *old });
+    for part in parts {
+        for word in *part {
+            let _ = words.try_push(*word);
+        }
     }
     words
 }
 
-/// The word with r0, the template with r16, and the place and the word of its access with r0.
+/// The inline template with these words, of which the one at this place is exchanged.
+fn with_word(between: &[u16], place: usize, word: u16) -> ArrayVec<u16, 64> {
+    let mut words = joined(&[&BEGIN]);
+    for (i, old) in between.iter().enumerate() {
+        let _ = words.try_push(if i == place { word } else { *old });
+    }
+    joined(&[words.as_slice(), &END])
+}
+
+/// The word with r0, the words with r16, and the place and the word of their access with r0.
 const INLINE: [(u16, &[u16], usize, u16); 4] = [
-    (0x920F, &PUSH, 15, 0x8200),
-    (0x900F, &POP, 16, 0x8000),
-    (0x8009, &LOAD, 13, 0x8000),
-    (0x8209, &STORE, 13, 0x8200),
+    (0x920F, &PUSH, 8, 0x8200),
+    (0x900F, &POP, 9, 0x8000),
+    (0x8009, &LOAD, 6, 0x8000),
+    (0x8209, &STORE, 6, 0x8200),
 ];
 
 /// Every register but Z's: only the access differs.
 #[test]
 fn each_register_but_those_of_z_is_inline(rt: HostRuntime) {
-    for (first, template, place, access) in INLINE {
+    for (first, between, place, access) in INLINE {
         for r in 0..30u16 {
             assert!(rt;
                 inline(first | r << 4).as_slice()
-                    == with_word(template, place, access | r << 4).as_slice(),
+                    == with_word(between, place, access | r << 4).as_slice(),
                 "{first} r{r}"
             );
         }
@@ -124,12 +126,8 @@ fn a_displacement_is_added(rt: HostRuntime) {
         (0xAD0F, 0xAF0F, 0x96FF),
     ];
     for (from_y, to_y, add) in rows {
-        let mut load = LOAD;
-        load[8] = add;
-        assert!(rt; inline(from_y).as_slice() == load.as_slice());
-        let mut store = STORE;
-        store[8] = add;
-        assert!(rt; inline(to_y).as_slice() == store.as_slice());
+        assert!(rt; inline(from_y).as_slice() == with_word(&LOAD, 1, add).as_slice());
+        assert!(rt; inline(to_y).as_slice() == with_word(&STORE, 1, add).as_slice());
     }
 }
 
@@ -149,11 +147,11 @@ fn every_other_access_calls_the_kernel(rt: HostRuntime) {
     }
 }
 
-/// A branch back is counted; a skip over a jump passes two words.
+/// BRNE back to address 1 leads over a jump over a crossing stub; a skip over a jump passes two words.
 #[test]
 fn a_branch_and_a_skip_pass_over_a_stub(rt: HostRuntime) {
     let branch = template(2, 0xF7F1, 0xCFFF, 1);
-    assert!(rt; branch.as_slice() == COUNTED_BRANCH.as_slice());
+    assert!(rt; branch.as_slice() == joined(&[&[0xF409, 0xC016], &COUNTED]).as_slice());
     let skip = template(0, 0x1000, 0x940C, 2);
     assert!(rt; skip.as_slice() == [0x1000, 0xC003, 0x940E, 0xF000, 3].as_slice());
 }

@@ -4,7 +4,7 @@ use Rattle.std.specs.Prelude.{Option, Some, None}
 use Rattle.avr_isa.specs.declared.form.Form.{Form}
 use Rattle.avr_exec.specs.declared.cpu.Cpu.{Cpu}
 use Rattle.avr_exec.specs.declared.ask.Ask.{Ask}
-use Rattle.avr_exec.specs.declared.ask.Ask.TheVariants.{Nothing, Load as LoadAsk, Store as StoreAsk, Modify, PushByte, PopByte, PushReturn, PopReturn, Program, ExtendedProgram, ExtendedProgramRaising}
+use Rattle.avr_exec.specs.declared.ask.Ask.TheVariants.{Load as LoadAsk, Store as StoreAsk, Modify, PushByte, PopByte, PushReturn, PopReturn}
 use Rattle.avr_exec.specs.declared.stop.BusStop.TheVariants.{Stack as StackStop, SwapFull as FullStop}
 use Rattle.avr_isa.specs.Addresses.{wrapping_sum, wrapping_difference}
 use Rattle.avr_exec.specs.Spaces.{Outcome, Went, Stopped}
@@ -39,10 +39,7 @@ answered_over f (Stopped stop) = refl
 -- two flat spaces that differ in their memory, their pages and their limit at most
 same_flat : (memory memory' : List ℕ) (ps ps' : List Bool) (limit limit' : ℕ) (s : FlatSpace) → memory ≡ memory' → ps ≡ ps' → limit ≡ limit'
     → ◌≡◌ {A = FlatSpace} (record s { memory = memory; pages = ps; page_limit = limit }) (record s { memory = memory'; pages = ps'; page_limit = limit' })
-same_flat memory memory' ps ps' limit limit' s m p l =
-    ap (λ x. record s { memory = x; pages = ps; page_limit = limit }) m
-    ∙ ap (λ x. record s { memory = memory'; pages = x; page_limit = limit }) p
-    ∙ ap (λ x. record s { memory = memory'; pages = ps'; page_limit = x }) l
+same_flat memory memory' ps ps' limit limit' s m p l = rw (m, p, l)
 
 -- the devices
 device_reads : (g : Guarded) (a : ℕ) (asked : Asked ℕ) → flat_from_device (flat_of g) a asked ≡ over flat_of (from_device g a asked)
@@ -80,7 +77,8 @@ heap_stores g a v (Some h) is heap paged =
     let done = stored_some (heap_of g) a v h paged heap is in
     ap (λ b. cond b (Went tt (with_memory (with_page (flat_of g) a) a v)) (Stopped (FullStop a))) done.1
     ∙ ap (Went tt)
-    (same_flat (slice_set (vmem g.sram g.swap) a v) (vmem h.sram h.swap) (slice_set (pages g.sram) (a / 256) true) (pages h.sram) (length g.swap) (length h.swap) (flat_of g) (sym done.0.memory) (sym done.0.pages) (sym done.0.count))
+    (same_flat (slice_set (vmem g.sram g.swap) a v) (vmem h.sram h.swap) (slice_set (pages g.sram) (a / 256) true) (pages h.sram) (length g.swap) (length h.swap) (flat_of g) (sym done.0.memory)
+    (sym done.0.pages) (sym done.0.count))
 heap_stores g a v None is heap paged =
     ap (λ b. cond b (Went tt (with_memory (with_page (flat_of g) a) a v)) (Stopped (FullStop a))) (stored_none (heap_of g) a v paged heap is)
 
@@ -98,54 +96,48 @@ unfolding modify
 modify_alike g a clear set = device_writes g a (modify_device g.devices a clear set)
 
 -- the stack
-pushes : (b : Bool) (g : Guarded) (sp v : ℕ) → is_stack sp ≡ b → IsPaged g.sram g.swap
-    → ◌≡◌ {A = Outcome FlatSpace (Unit {0})} (cond b (Went tt (with_memory (flat_of g) sp v)) (Stopped (StackStop sp))) (over flat_of (cond b (Went tt (with_sram g sp v)) (Stopped (StackStop sp))))
-pushes true g sp v is paged = ap (Went tt) (sym (flat_with_sram g sp v paged is))
-pushes false g sp v is paged = refl
+over_if : {A : Type 0} (b : Bool) (o p : Outcome FlatSpace A) (o' p' : Outcome Guarded A) → (b ≡ true → o ≡ over flat_of o') → p ≡ over flat_of p' → cond b o p ≡ over flat_of (cond b o' p')
+over_if true o p o' p' same other = same refl
+over_if false o p o' p' same other = other
 
 pub push_alike : (g : Guarded) (sp v : ℕ) → IsPaged g.sram g.swap → push_on flat_stack (flat_of g) sp v ≡ over flat_of (push g sp v)
 unfolding push push_on
-push_alike g sp v paged = pushes (is_stack sp) g sp v refl paged
-
-pops : (b : Bool) (g : Guarded) (a : ℕ) → is_stack a ≡ b → IsPaged g.sram g.swap
-    → cond b (Went (slice_index (vmem g.sram g.swap) a) (flat_of g)) (Stopped (StackStop a)) ≡ over flat_of (cond b (Went (byte_at g.sram a) g) (Stopped (StackStop a)))
-pops true g a is paged = ap (λ v. Went v (flat_of g)) (stack_read g.sram g.swap a is)
-pops false g a is paged = refl
+push_alike g sp v paged =
+    over_if (is_stack sp) (Went tt (with_memory (flat_of g) sp v)) (Stopped (StackStop sp)) (Went tt (with_sram g sp v)) (Stopped (StackStop sp))
+    (λ is. ap (Went tt) (sym (flat_with_sram g sp v paged is))) refl
 
 pub pop_alike : (g : Guarded) (sp : ℕ) → IsPaged g.sram g.swap → pop_from flat_stack (flat_of g) sp ≡ over flat_of (pop g sp)
 unfolding pop pop_from
-pop_alike g sp paged = pops (is_stack (wrapping_sum sp 1)) g (wrapping_sum sp 1) refl paged
-
-two_pushes : (b c : Bool) (g : Guarded) (a below low high : ℕ) → is_stack a ≡ b → is_stack below ≡ c → IsPaged g.sram g.swap
-    → ◌≡◌ {A = Outcome FlatSpace (Unit {0})}
-    (cond b (cond c (Went tt (with_memory (with_memory (flat_of g) a low) below high)) (Stopped (StackStop below))) (Stopped (StackStop a)))
-    (over flat_of (cond b (cond c (Went tt (with_sram (with_sram g a low) below high)) (Stopped (StackStop below))) (Stopped (StackStop a))))
-two_pushes true true g a below low high is is' paged =
-    ap (λ s. Went tt (with_memory s below high)) (sym (flat_with_sram g a low paged is))
-    ∙ ap (Went tt) (sym (flat_with_sram (with_sram g a low) below high (stack_paged g.sram g.swap a low paged is) is'))
-two_pushes true false g a below low high is is' paged = refl
-two_pushes false c g a below low high is is' paged = refl
+pop_alike g sp paged =
+    let a = wrapping_sum sp 1 in
+    over_if (is_stack a) (Went (slice_index (vmem g.sram g.swap) a) (flat_of g)) (Stopped (StackStop a)) (Went (byte_at g.sram a) g) (Stopped (StackStop a))
+    (λ is. ap (λ v. Went v (flat_of g)) (stack_read g.sram g.swap a is)) refl
 
 pub push_return_alike : (g : Guarded) (sp ret : ℕ) → IsPaged g.sram g.swap → push_return_on flat_stack (flat_of g) sp ret ≡ over flat_of (push_return g sp ret)
 unfolding push_return push_return_on
-push_return_alike g sp ret paged = two_pushes (is_stack sp) (is_stack (wrapping_difference sp 1)) g sp (wrapping_difference sp 1) (ret % 256) (ret / 256) refl refl paged
-
-two_pops : (b c : Bool) (g : Guarded) (high low : ℕ) → is_stack high ≡ b → is_stack low ≡ c → IsPaged g.sram g.swap
-    → cond b (cond c (Went (slice_index (vmem g.sram g.swap) high * 256 + slice_index (vmem g.sram g.swap) low) (flat_of g)) (Stopped (StackStop low))) (Stopped (StackStop high))
-    ≡ over flat_of (cond b (cond c (Went (byte_at g.sram high * 256 + byte_at g.sram low) g) (Stopped (StackStop low))) (Stopped (StackStop high)))
-two_pops true true g high low is is' paged =
-    ap₂ (λ v w. Went (v * 256 + w) (flat_of g)) (stack_read g.sram g.swap high is) (stack_read g.sram g.swap low is')
-two_pops true false g high low is is' paged = refl
-two_pops false c g high low is is' paged = refl
+push_return_alike g sp ret paged =
+    let below = wrapping_difference sp 1 in
+    let middle = with_sram g sp (ret % 256) in
+    over_if (is_stack sp) _ (Stopped (StackStop sp)) _ (Stopped (StackStop sp)) (λ is.
+    over_if (is_stack below) (Went tt (with_memory (with_memory (flat_of g) sp (ret % 256)) below (ret / 256))) (Stopped (StackStop below)) (Went tt (with_sram middle below (ret / 256)))
+    (Stopped (StackStop below)) (λ is'.
+    ap (λ s. Went tt (with_memory s below (ret / 256))) (sym (flat_with_sram g sp (ret % 256) paged is))
+    ∙ ap (Went tt) (sym (flat_with_sram middle below (ret / 256) (stack_paged g.sram g.swap sp (ret % 256) paged is) is'))) refl) refl
 
 pub pop_return_alike : (g : Guarded) (sp : ℕ) → IsPaged g.sram g.swap → pop_return_from flat_stack (flat_of g) sp ≡ over flat_of (pop_return g sp)
 unfolding pop_return pop_return_from
-pop_return_alike g sp paged = two_pops (is_stack (wrapping_sum sp 1)) (is_stack (wrapping_sum sp 2)) g (wrapping_sum sp 1) (wrapping_sum sp 2) refl refl paged
+pop_return_alike g sp paged =
+    let high = wrapping_sum sp 1 in
+    let low = wrapping_sum sp 2 in
+    let memory = vmem g.sram g.swap in
+    over_if (is_stack high) _ (Stopped (StackStop high)) _ (Stopped (StackStop high)) (λ is.
+    over_if (is_stack low) (Went (slice_index memory high * 256 + slice_index memory low) (flat_of g)) (Stopped (StackStop low)) (Went (byte_at g.sram high * 256 + byte_at g.sram low) g)
+    (Stopped (StackStop low)) (λ is'.
+    ap₂ (λ v w. Went (v * 256 + w) (flat_of g)) (stack_read g.sram g.swap high is) (stack_read g.sram g.swap low is')) refl) refl
 
 -- whatever is asked, the guarded space answers as flat memory does
 pub answers_alike : (g : Guarded) (ask : Ask) → IsPaged g.sram g.swap → answer_of flat_calls (flat_of g) ask ≡ over flat_of (answer_of guarded_calls g ask)
 unfolding answer_of
-answers_alike g Nothing paged = refl
 answers_alike g (LoadAsk a) paged = ap (answered_by _) (load_alike g a paged) ∙ answered_over _ (load g a)
 answers_alike g (StoreAsk a v) paged = ap (answered_by _) (store_alike g a v paged) ∙ answered_over _ (store g a v)
 answers_alike g (Modify a clear set) paged = ap (answered_by _) (modify_alike g a clear set) ∙ answered_over _ (modify g a clear set)
@@ -153,9 +145,7 @@ answers_alike g (PushByte sp v) paged = ap (answered_by _) (push_alike g sp v pa
 answers_alike g (PopByte sp) paged = ap (answered_by _) (pop_alike g sp paged) ∙ answered_over _ (pop g sp)
 answers_alike g (PushReturn sp ret) paged = ap (answered_by _) (push_return_alike g sp ret paged) ∙ answered_over _ (push_return g sp ret)
 answers_alike g (PopReturn sp) paged = ap (answered_by _) (pop_return_alike g sp paged) ∙ answered_over _ (pop_return g sp)
-answers_alike g (Program z) paged = refl
-answers_alike g (ExtendedProgram z) paged = refl
-answers_alike g (ExtendedProgramRaising z) paged = refl
+answers_alike g _ paged = refl
 
 -- so an instruction executed over the guarded space is executed over flat memory
 pub executed_alike : (form : Form) (cpu : Cpu) (g : Guarded) (n : ℕ) → IsPaged g.sram g.swap → exec_of flat_calls form cpu (flat_of g) n ≡ over flat_of (exec_of guarded_calls form cpu g n)

@@ -1,6 +1,6 @@
 -- The mote at boot is the original program's machine at reset: its memory and its pages.
 use Rattle.std.proofs.Common.{◌≡◌, ℕ, List}
-use Rattle.base_laws.specs.Lists.{zeros}
+use Rattle.base.specs.Lists.{zeros}
 use Rattle.sram_layout.specs.Boot.{at_boot}
 use Rattle.heap_frames.specs.Frames.{pages}
 use Rattle.heap_frames.specs.Memory.{vmem}

@@ -20,19 +20,12 @@ pub flat_answer : {A : Type 0} (result : Result A BusStop) (next : Guarded) (out
 flat_answer result next outcome flat answer alike = told_flat result next ∙ ap (over flat_of) answer ∙ sym alike
 
 -- what the call leaves
-kept_or_same : {A : Type 0} (P : Guarded → Type 0) (g next : Guarded) (result : Result A BusStop) → IsPaged g.sram g.swap
-    → Leaves (λ n. IsKept g n × P n) (outcome_of result next) → OnErr result (next ≡ g) → IsKept g next
-kept_or_same P g next (Ok answer) paged left stop = left.0
-kept_or_same P g next (Err stopped) paged left stop = subst (IsKept g) (sym stop) (kept_same g paged)
-
 pub kept_by : {A : Type 0} (P : Guarded → Type 0) (g next : Guarded) (result : Result A BusStop) (outcome : Outcome Guarded A) → IsPaged g.sram g.swap
     → outcome_of result next ≡ outcome → Leaves (λ n. IsKept g n × P n) outcome → OnErr result (next ≡ g) → IsKept g next
-kept_by P g next result outcome paged answer left stop = kept_or_same P g next result paged (subst (Leaves (λ n. IsKept g n × P n)) (sym answer) left) stop
-
-done_on_ok : {A : Type 0} (P : Guarded → Type 0) (g next : Guarded) (result : Result A BusStop) → Leaves (λ n. IsKept g n × P n) (outcome_of result next) → OnOk result (P next)
-done_on_ok P g next (Ok answer) left = left.1
-done_on_ok P g next (Err stopped) left = tt
+kept_by P g next (Ok done) outcome paged answer left stop = (subst (Leaves (λ n. IsKept g n × P n)) (sym answer) left).0
+kept_by P g next (Err stopped) outcome paged answer left stop = subst (IsKept g) (sym stop) (kept_same g paged)
 
 pub heap_by : {A : Type 0} (P : Guarded → Type 0) (g next : Guarded) (result : Result A BusStop) (outcome : Outcome Guarded A)
     → outcome_of result next ≡ outcome → Leaves (λ n. IsKept g n × P n) outcome → OnOk result (P next)
-heap_by P g next result outcome answer left = done_on_ok P g next result (subst (Leaves (λ n. IsKept g n × P n)) (sym answer) left)
+heap_by P g next (Ok done) outcome answer left = (subst (Leaves (λ n. IsKept g n × P n)) (sym answer) left).1
+heap_by P g next (Err stopped) outcome answer left = tt

@@ -25,17 +25,13 @@ use Rattle.mem_guard.proofs.Alike.{executed_alike}
 use Rattle.mem_guard.proofs.Leaves.{executed_leaves, kept_same}
 
 -- what it leaves of the mote's own parts
-left_or_same : {A : Type 0} (P : Guarded → Type 0) (result : Result A BusStop) (cpu cpu' : Cpu) (g next : Guarded) → IsPaged g.sram g.swap
-    → Leaves (λ n. IsKept g n × P n) (finished result cpu' next) → OnErr result ((cpu' ≡ cpu) × (next ≡ g)) → IsKept g next × OnOk result (P next)
-left_or_same P (Ok done) cpu cpu' g next paged left stop = (left.0, left.1)
-left_or_same P (Err stopped) cpu cpu' g next paged left stop = (subst (IsKept g) (sym stop.1) (kept_same g paged), tt)
-
 pub executed_left : {A : Type 0} (result : Result A BusStop) (form : Form) (cpu cpu' : Cpu) (g next : Guarded) (n : ℕ) → IsPaged g.sram g.swap
     → finished result cpu' next ≡ exec_of guarded_calls form cpu g n → OnErr result ((cpu' ≡ cpu) × (next ≡ g))
     → IsKept g next × OnOk result (HeapAfter g (ask_of form cpu) next)
-executed_left result form cpu cpu' g next n paged outcome stop =
-    let P = λ (after : Guarded). HeapAfter g (ask_of form cpu) after in
-    left_or_same P result cpu cpu' g next paged (subst (Leaves (λ after. IsKept g after × P after)) (sym outcome) (executed_leaves form cpu g n paged)) stop
+executed_left (Ok done) form cpu cpu' g next n paged outcome stop =
+    let left = subst (Leaves (λ after. IsKept g after × HeapAfter g (ask_of form cpu) after)) (sym outcome) (executed_leaves form cpu g n paged) in
+    (left.0, left.1)
+executed_left (Err stopped) form cpu cpu' g next n paged outcome stop = (subst (IsKept g) (sym stop.1) (kept_same g paged), tt)
 
 -- the step itself: no line was written before it
 abbrev counted : ℕ → Cpu → Cpu → ℕ
@@ -53,7 +49,8 @@ reads_own part g cpu form none = ap (if_foreign part) (asks_none (stored g.devic
 
 step_tried : (part : Part) (q : ℕ) (g : Guarded) (cpu : Cpu) (steps crossings : ℕ) (form : Form) → IsPaged g.sram g.swap → g.line ≡ None
     → instruction_at (image_of g.layout g.words) cpu.pc ≡ Some form → is_executed form ≡ true → ReadsOwn part g cpu form → jumps_to_itself cpu.pc form && not (has_bit cpu.sreg interrupts) ≡ false
-    → tried (program_of part q g) (state_of g cpu steps crossings) ≡ stepped (state_of g cpu steps crossings) (over flat_of (exec_of guarded_calls form cpu g (next_size (image_of g.layout g.words) cpu.pc)))
+    → tried (program_of part q g) (state_of g cpu steps crossings)
+    ≡ stepped (state_of g cpu steps crossings) (over flat_of (exec_of guarded_calls form cpu g (next_size (image_of g.layout g.words) cpu.pc)))
 step_tried part q g cpu steps crossings form paged none is runs own goes =
     let s = state_of g cpu steps crossings in
     let n = next_size (image_of g.layout g.words) cpu.pc in

@@ -2,16 +2,15 @@
 use Rattle.std.proofs.Common.{◌≡◌, ℕ, ◌+◌, ◌*◌, ◌/◌, ◌%◌, Bool, true, false, cond, refl, subst}
 use Rattle.std.specs.Prelude.{Option, Some, None}
 use Rattle.avr_isa.specs.declared.form.Form.{Form}
-use Rattle.avr_isa.specs.declared.form.Form.TheVariants.{Cpse, Sbic, Sbis, Sbrc, Sbrs, Brbs, Brbc, Rjmp, Rcall, Jmp, Call, Ijmp, Icall, Ret, Reti, Sleep, Spm}
+use Rattle.avr_isa.specs.declared.form.Form.TheVariants.{Sbic, Sbis, LoadOff, StoreOff, LoadAt, StoreAt, Lds, Sts, Elpm, InIo, OutIo, Cbi, Sbi}
 use Rattle.avr_exec.specs.declared.cpu.Cpu.{Cpu}
 use Rattle.avr_exec.specs.declared.ask.Ask.{Ask}
-use Rattle.avr_exec.specs.declared.ask.Ask.TheVariants.{Nothing, Load as LoadAsk, Store as StoreAsk, Modify, PushByte, PopByte, PushReturn, PopReturn, Program, ExtendedProgram, ExtendedProgramRaising}
-use Rattle.avr_exec.specs.declared.stop.BusStop.{BusStop}
+use Rattle.avr_exec.specs.declared.ask.Ask.TheVariants.{Nothing, Load as LoadAsk, Store as StoreAsk, Modify, PushByte, PopByte, PushReturn, PopReturn}
 use Rattle.avr_exec.specs.declared.stop.BusStop.TheVariants.{Stack as StackStop}
 use Rattle.avr_isa.specs.Addresses.{wrapping_sum, wrapping_difference}
 use Rattle.avr_exec.specs.Registers.{is_own}
 use Rattle.avr_exec.specs.StackRules.{push_on, pop_from, push_return_on, pop_return_from}
-use Rattle.avr_exec.specs.Spaces.{Went, Stopped}
+use Rattle.avr_exec.specs.Spaces.{Went}
 use Rattle.avr_exec.specs.Asks.{ask_of, load_of}
 use Rattle.avr_isa.specs.IoTable.{io_address}
 use Rattle.avr_exec.specs.Execution.{answer_of, exec_of}
@@ -27,6 +26,7 @@ use Rattle.flat_machine.specs.declared.address.AddrClass.TheVariants.{Stack, Hea
 use Rattle.flat_machine.specs.Classes.{class_of}
 use Rattle.mem_guard.specs.Guarded.{Guarded, heap_of, with_sram, from_device, to_device, to_heap, load_in, store_in, load, store, modify, push, pop, push_return, pop_return, guarded_calls}
 use Rattle.mem_guard.specs.Left.{LineAfterStore, LineAfter}
+use Rattle.mem_guard.proofs.Leaves.{one_leaves, two_leave}
 
 -- the line stays
 abbrev KeepsLine : Guarded → Guarded → Type 0
@@ -66,38 +66,31 @@ modify_line : (g : Guarded) (a clear set : ℕ) → Leaves (LineAfter g (Modify 
 unfolding modify
 modify_line g a clear set = device_writes g a (modify_device g.devices a clear set)
 
--- one address, or two, that must be in the window
-one : {A : Type 0} (b : Bool) (g next : Guarded) (answer : A) (stop : BusStop) → next.line ≡ g.line → Leaves (KeepsLine g) (cond b (Went answer next) (Stopped stop))
-one true g next answer stop same = same
-one false g next answer stop same = tt
-
-both : {A : Type 0} (b c : Bool) (g next : Guarded) (answer : A) (stop stop' : BusStop) → next.line ≡ g.line
-    → Leaves (KeepsLine g) (cond b (cond c (Went answer next) (Stopped stop)) (Stopped stop'))
-both true c g next answer stop stop' same = one c g next answer stop same
-both false c g next answer stop stop' same = tt
-
+-- the stack
 pub push_line : (g : Guarded) (sp v : ℕ) → Leaves (LineAfter g (PushByte sp v)) (push g sp v)
 unfolding push push_on
-push_line g sp v = one _ g _ _ _ refl
+push_line g sp v = one_leaves (KeepsLine g) _ _ _ _ (λ is. refl)
 
 pub pop_line : (g : Guarded) (sp : ℕ) → Leaves (LineAfter g (PopByte sp)) (pop g sp)
 unfolding pop pop_from
-pop_line g sp = one _ g _ _ _ refl
+pop_line g sp = one_leaves (KeepsLine g) _ _ _ _ (λ is. refl)
 
 pub push_return_line : (g : Guarded) (sp ret : ℕ) → Leaves (LineAfter g (PushReturn sp ret)) (push_return g sp ret)
 unfolding push_return push_return_on
 push_return_line g sp ret =
-    both {A = Unit {0}} (is_stack sp) (is_stack (wrapping_difference sp 1)) g (with_sram (with_sram g sp (ret % 256)) (wrapping_difference sp 1) (ret / 256)) tt (StackStop (wrapping_difference sp 1)) (StackStop sp) refl
+    let below = wrapping_difference sp 1 in
+    two_leave (KeepsLine g) (is_stack sp) (is_stack below) tt (with_sram (with_sram g sp (ret % 256)) below (ret / 256)) (StackStop below) (StackStop sp) (λ is is'. refl)
 
 pub pop_return_line : (g : Guarded) (sp : ℕ) → Leaves (LineAfter g (PopReturn sp)) (pop_return g sp)
 unfolding pop_return pop_return_from
 pop_return_line g sp =
-    both (is_stack (wrapping_sum sp 1)) (is_stack (wrapping_sum sp 2)) g g (byte_at g.sram (wrapping_sum sp 1) * 256 + byte_at g.sram (wrapping_sum sp 2)) (StackStop (wrapping_sum sp 2)) (StackStop (wrapping_sum sp 1)) refl
+    let high = wrapping_sum sp 1 in
+    let low = wrapping_sum sp 2 in
+    two_leave (KeepsLine g) (is_stack high) (is_stack low) (byte_at g.sram high * 256 + byte_at g.sram low) g (StackStop low) (StackStop high) (λ is is'. refl)
 
 -- whatever is asked
 pub answers_line : (g : Guarded) (ask : Ask) → Leaves (LineAfter g ask) (answer_of guarded_calls g ask)
 unfolding answer_of
-answers_line g Nothing = refl
 answers_line g (LoadAsk a) = answered_by-leaves _ _ (load g a) (load_line g a)
 answers_line g (StoreAsk a v) = answered_by-leaves _ _ (store g a v) (store_line g a v)
 answers_line g (Modify a clear set) = answered_by-leaves _ _ (modify g a clear set) (modify_line g a clear set)
@@ -105,9 +98,7 @@ answers_line g (PushByte sp v) = answered_by-leaves _ _ (push g sp v) (push_line
 answers_line g (PopByte sp) = answered_by-leaves _ _ (pop g sp) (pop_line g sp)
 answers_line g (PushReturn sp ret) = answered_by-leaves _ _ (push_return g sp ret) (push_return_line g sp ret)
 answers_line g (PopReturn sp) = answered_by-leaves _ _ (pop_return g sp) (pop_return_line g sp)
-answers_line g (Program z) = refl
-answers_line g (ExtendedProgram z) = refl
-answers_line g (ExtendedProgramRaising z) = refl
+answers_line g _ = refl
 
 -- an instruction that is executed changes the line as the one thing that it asks does
 pub executed_line : (form : Form) (cpu cpu' : Cpu) (g next : Guarded) (n : ℕ) → exec_of guarded_calls form cpu g n ≡ Went cpu' next → LineAfter g (ask_of form cpu) next
@@ -122,24 +113,20 @@ load_keeps false g next a after = after
 -- a jump, a call, a return, a branch and a skip write no line
 transfer_keeps : (form : Form) (cpu : Cpu) (g next : Guarded) → is_transfer form ≡ true → LineAfter g (ask_of form cpu) next → next.line ≡ g.line
 unfolding is_transfer ask_of load_of
-transfer_keeps (Cpse d r) cpu g next is after = after
 transfer_keeps (Sbic a b) cpu g next is after = load_keeps (is_own (io_address a)) g next (io_address a) after
 transfer_keeps (Sbis a b) cpu g next is after = load_keeps (is_own (io_address a)) g next (io_address a) after
-transfer_keeps (Sbrc r b) cpu g next is after = after
-transfer_keeps (Sbrs r b) cpu g next is after = after
-transfer_keeps (Brbs s k) cpu g next is after = after
-transfer_keeps (Brbc s k) cpu g next is after = after
-transfer_keeps (Rjmp k) cpu g next is after = after
-transfer_keeps (Rcall k) cpu g next is after = after
-transfer_keeps (Jmp a) cpu g next is after = after
-transfer_keeps (Call a) cpu g next is after = after
-transfer_keeps Ijmp cpu g next is after = after
-transfer_keeps Icall cpu g next is after = after
-transfer_keeps Ret cpu g next is after = after
-transfer_keeps Reti cpu g next is after = after
-transfer_keeps Sleep cpu g next is after = after
-transfer_keeps Spm cpu g next is after = after
-transfer_keeps _ cpu g next is after = absurd (cc)
+transfer_keeps (LoadOff d base q) cpu g next is after = absurd (cc)
+transfer_keeps (StoreOff base q d) cpu g next is after = absurd (cc)
+transfer_keeps (LoadAt d pointer) cpu g next is after = absurd (cc)
+transfer_keeps (StoreAt pointer d) cpu g next is after = absurd (cc)
+transfer_keeps (Lds d a) cpu g next is after = absurd (cc)
+transfer_keeps (Sts a d) cpu g next is after = absurd (cc)
+transfer_keeps (Elpm d rises) cpu g next is after = absurd (cc)
+transfer_keeps (InIo d a) cpu g next is after = absurd (cc)
+transfer_keeps (OutIo a d) cpu g next is after = absurd (cc)
+transfer_keeps (Cbi a b) cpu g next is after = absurd (cc)
+transfer_keeps (Sbi a b) cpu g next is after = absurd (cc)
+transfer_keeps _ cpu g next is after = after
 
 pub transfer_line : (form : Form) (cpu cpu' : Cpu) (g next : Guarded) (n : ℕ) → is_transfer form ≡ true → exec_of guarded_calls form cpu g n ≡ Went cpu' next → next.line ≡ g.line
 transfer_line form cpu cpu' g next n is went = transfer_keeps form cpu g next is (executed_line form cpu cpu' g next n went)

@@ -1,7 +1,7 @@
 //! The guard in front of the mote's own memory.
 //!
-//! A program believes in 64 KiB of flat data memory, whose machine is crate `flat_machine`; its [`AddrClass`] and [`class`]
-//! stand here too. [`VirtualBus`] is that memory over the mote's own parts: the devices, SRAM, the heap's frames and
+//! A program believes in 64 KiB of flat data memory, whose machine is crate `flat_machine`; its [`AddrClass`], [`class`]
+//! and [`is_stack`] stand here too. [`VirtualBus`] is that memory over the mote's own parts: the devices, SRAM, the heap's frames and
 //! slots, and flash for the program's own bytes. No access reaches the kernel's memory.
 //!
 //! ```rust
@@ -26,9 +26,8 @@ mod parts;
 mod virtual_bus;
 
 pub use at_hand::{load_at_hand, store_at_hand};
-pub use flat_machine::{AddrClass, class};
+pub use flat_machine::{AddrClass, class, is_stack};
 pub use image::{
     byte_in_image, instruction_in_image, kept_instruction, known_instruction, next_size_in_image,
 };
-pub use parts::is_stack;
 pub use virtual_bus::VirtualBus;

@@ -3,14 +3,13 @@
 ghost use Rattle.std.specs.Prelude.{◌≡◌, ◌≤◌, false, OnErr};
 ghost use Rattle.avr_exec.specs.Registers.{is_own};
 ghost use Rattle.avr_exec.specs.Spaces.{outcome_of};
-ghost use Rattle.flat_machine.specs.Addresses.{is_stack as is_stack_test};
 ghost use Rattle.mem_guard.specs.Guarded.{load, store, modify, push, pop, push_return, pop_return};
 ghost use Rattle.mem_guard.specs.Bus.{guarded_of, lent_of};
 ghost use Rattle.mem_guard.specs.Readiness.{IsReady};
 
 use crate::virtual_bus::VirtualBus;
 use avr_exec::BusStop;
-use flat_machine::{AddrClass, class};
+use flat_machine::{AddrClass, class, is_stack};
 
 impl VirtualBus<'_> {
     /// The byte at a data address.
@@ -145,11 +144,4 @@ impl VirtualBus<'_> {
         }
         Ok(u16::from(self.sram.byte(high)) * 256 + u16::from(self.sram.byte(low)))
     }
-}
-
-/// Whether a data address is in the stack window.
-pub fn is_stack(a: u16) -> bool
-    ensures value { result ≡ is_stack_test a }
-{
-    0x0D00 <= a && a <= 0x10FF
 }

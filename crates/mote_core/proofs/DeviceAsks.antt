@@ -1,6 +1,7 @@
 -- An instruction that asks nothing, or a register that a program may access, can be stepped.
-use Rattle.std.proofs.Common.{◌≡◌, Bool, true, false, ◌||◌, refl}
+use Rattle.std.proofs.Common.{◌≡◌, true, refl}
 use Rattle.std.specs.Prelude.{Some, Option}
+use Rattle.std.proofs.lemmas.Bool.{or_right}
 use Rattle.avr_isa.specs.declared.form.Form.{Form}
 use Rattle.avr_exec.specs.declared.cpu.Cpu.{Cpu}
 use Rattle.avr_exec.specs.declared.ask.Ask.{Ask}
@@ -11,16 +12,12 @@ use Rattle.mote_core.specs.Physical.{is_sram}
 use Rattle.mote_core.specs.Conditions.{is_mapped, is_device_ask, can_step}
 use Rattle.mote_core.proofs.StepsByAnswer.{can_by}
 
-or_true : (a b : Bool) → b ≡ true → a || b ≡ true
-or_true true b is = refl
-or_true false b is = is
-
 -- what is asked is mapped
 pub device_mapped : (ask : Ask) → is_device_ask ask ≡ true → is_mapped ask ≡ true
 unfolding is_device_ask is_mapped
 device_mapped Nothing can = refl
-device_mapped (Load a) can = or_true (is_sram a) _ can
-device_mapped (Store a v) can = or_true (is_sram a) _ can
+device_mapped (Load a) can = or_right (is_sram a) _ can
+device_mapped (Store a v) can = or_right (is_sram a) _ can
 device_mapped (Modify a clear set) can = can
 device_mapped _ can = absurd (cc)
 

@@ -48,8 +48,8 @@ abbrev pub lowered : ℕ → ℕ → ℕ × ℕ
 lowered s x = result_of s ((x + 255) % 256) (x == 0x80)
 
 -- DEC
-pub quiet_dec : (m : Mote) (r r' : List ℕ) (s s' pc : ℕ) (sram : List ℕ) (d : ℕ) → flash_form m pc ≡ Some (One Dec d) → pc + 1 < 65536 → slice_set r d (lowered s (slice_index r d)).0 ≡ r' → (lowered s (slice_index r d)).1 ≡ s'
-    → IsQuiet (held m r s pc sram) (held m r' s' (pc + 1) sram)
+pub quiet_dec : (m : Mote) (r r' : List ℕ) (s s' pc : ℕ) (sram : List ℕ) (d : ℕ) → flash_form m pc ≡ Some (One Dec d) → pc + 1 < 65536 → slice_set r d (lowered s (slice_index r d)).0 ≡ r'
+    → (lowered s (slice_index r d)).1 ≡ s' → IsQuiet (held m r s pc sram) (held m r' s' (pc + 1) sram)
 unfolding is_executed ask_of finish_of is_mapped answer_of one_of
 quiet_dec m r r' s s' pc sram d is below value status =
     quiet_by (held m r s pc sram) (One Dec d) Done sram (core m r' s' (pc + 1)) is refl refl refl (ap₂ (λ x y. core m x y (wrapping_sum pc 1)) value status ∙ pc_one m r' s' pc below) (keeps_same sram)
@@ -76,17 +76,19 @@ quiet_movw m r r' s pc sram is below value =
     quiet_by (held m r s pc sram) (Movw 30 28) Done sram (core m r' s (pc + 1)) is refl refl refl (ap (λ x. core m x s (wrapping_sum pc 1)) value ∙ pc_one m r' s pc below) (keeps_same sram)
 
 -- BRBS and BRBC forward, by what the flag is and where that leads
-pub quiet_branch : (m : Mote) (r : List ℕ) (s pc pc' : ℕ) (sram : List ℕ) (b n : ℕ) (taken : Bool) → flash_form m pc ≡ Some (Brbs b (pos n)) → has_bit s (2 ^ b) ≡ taken → cond taken (relative pc (pos n)) (wrapping_sum pc 1) ≡ pc'
-    → IsQuiet (held m r s pc sram) (held m r s pc' sram)
+pub quiet_branch : (m : Mote) (r : List ℕ) (s pc pc' : ℕ) (sram : List ℕ) (b n : ℕ) (taken : Bool) → flash_form m pc ≡ Some (Brbs b (pos n)) → has_bit s (2 ^ b) ≡ taken
+    → cond taken (relative pc (pos n)) (wrapping_sum pc 1) ≡ pc' → IsQuiet (held m r s pc sram) (held m r s pc' sram)
 unfolding is_executed ask_of finish_of is_mapped answer_of
 quiet_branch m r s pc pc' sram b n taken is test goes =
-    quiet_by (held m r s pc sram) (Brbs b (pos n)) Done sram (core m r s pc') is refl refl refl (ap (λ t. core m r s (cond t (relative pc (pos n)) (wrapping_sum pc 1))) test ∙ ap (core m r s) goes) (keeps_same sram)
+    quiet_by (held m r s pc sram) (Brbs b (pos n)) Done sram (core m r s pc') is refl refl refl (ap (λ t. core m r s (cond t (relative pc (pos n)) (wrapping_sum pc 1))) test ∙ ap (core m r s) goes)
+    (keeps_same sram)
 
-pub quiet_branch_clear : (m : Mote) (r : List ℕ) (s pc pc' : ℕ) (sram : List ℕ) (b n : ℕ) (set : Bool) → flash_form m pc ≡ Some (Brbc b (pos n)) → has_bit s (2 ^ b) ≡ set → cond (not set) (relative pc (pos n)) (wrapping_sum pc 1) ≡ pc'
-    → IsQuiet (held m r s pc sram) (held m r s pc' sram)
+pub quiet_branch_clear : (m : Mote) (r : List ℕ) (s pc pc' : ℕ) (sram : List ℕ) (b n : ℕ) (set : Bool) → flash_form m pc ≡ Some (Brbc b (pos n)) → has_bit s (2 ^ b) ≡ set
+    → cond (not set) (relative pc (pos n)) (wrapping_sum pc 1) ≡ pc' → IsQuiet (held m r s pc sram) (held m r s pc' sram)
 unfolding is_executed ask_of finish_of is_mapped answer_of
 quiet_branch_clear m r s pc pc' sram b n set is test goes =
-    quiet_by (held m r s pc sram) (Brbc b (pos n)) Done sram (core m r s pc') is refl refl refl (ap (λ t. core m r s (cond (not t) (relative pc (pos n)) (wrapping_sum pc 1))) test ∙ ap (core m r s) goes) (keeps_same sram)
+    quiet_by (held m r s pc sram) (Brbc b (pos n)) Done sram (core m r s pc') is refl refl refl
+    (ap (λ t. core m r s (cond (not t) (relative pc (pos n)) (wrapping_sum pc 1))) test ∙ ap (core m r s) goes) (keeps_same sram)
 
 -- the pc behind a branch that is taken, and one that is not
 behind_taken : (pc n : ℕ) → pc + 1 + n < 65536 → relative pc (pos n) ≡ pc + 1 + n

@@ -72,10 +72,11 @@ pub quiet_lds : (m : Mote) (r r' : List ℕ) (s pc : ℕ) (sram : List ℕ) (d a
 unfolding is_executed ask_of finish_of
 quiet_lds m r r' s pc sram d a is ram below value =
     quiet_by (held m r s pc sram) (Lds d a) (Byte (byte_at sram a)) sram (core m r' s (pc + 2)) is refl (load_mapped a ram) (load_answered (space_of (held m r s pc sram) None) a ram)
-    (ap (λ v. core m (slice_set r d v) s (wrapping_sum pc 2)) (loaded_is (core m r s pc) a (byte_at sram a) ram) ∙ ap (λ x. core m x s (wrapping_sum pc 2)) value ∙ pc_two m r' s pc below) (keeps_same sram)
+    (ap (λ v. core m (slice_set r d v) s (wrapping_sum pc 2)) (loaded_is (core m r s pc) a (byte_at sram a) ram) ∙ ap (λ x. core m x s (wrapping_sum pc 2)) value ∙ pc_two m r' s pc below)
+    (keeps_same sram)
 
-pub quiet_sts : (m : Mote) (r : List ℕ) (s pc : ℕ) (sram : List ℕ) (a d v : ℕ) → flash_form m pc ≡ Some (Sts a d) → is_sram a ≡ true → pc + 2 < 65536 → slice_index r d ≡ v → KeepsKernel sram (with_byte sram a v)
-    → IsQuiet (held m r s pc sram) (held m r s (pc + 2) (with_byte sram a v))
+pub quiet_sts : (m : Mote) (r : List ℕ) (s pc : ℕ) (sram : List ℕ) (a d v : ℕ) → flash_form m pc ≡ Some (Sts a d) → is_sram a ≡ true → pc + 2 < 65536 → slice_index r d ≡ v
+    → KeepsKernel sram (with_byte sram a v) → IsQuiet (held m r s pc sram) (held m r s (pc + 2) (with_byte sram a v))
 unfolding is_executed ask_of finish_of
 quiet_sts m r s pc sram a d v is ram below value keeps =
     quiet_by (held m r s pc sram) (Sts a d) Done (with_byte sram a v) (core m r s (pc + 2)) is refl (store_mapped a (slice_index r d) ram)
@@ -93,8 +94,8 @@ z_there : (r : List ℕ) (a : ℕ) → z_of r ≡ a → is_sram a ≡ true → (
 z_there r a is ram = z_small (z_of r) a is (sram_small a ram)
 
 -- LD and ST by Z, at a data address of SRAM
-pub quiet_ld_z : (m : Mote) (r r' : List ℕ) (s pc : ℕ) (sram : List ℕ) (d a : ℕ) → flash_form m pc ≡ Some (LoadOff d Z 0) → z_of r ≡ a → is_sram a ≡ true → pc + 1 < 65536 → slice_set r d (byte_at sram a) ≡ r'
-    → IsQuiet (held m r s pc sram) (held m r' s (pc + 1) sram)
+pub quiet_ld_z : (m : Mote) (r r' : List ℕ) (s pc : ℕ) (sram : List ℕ) (d a : ℕ) → flash_form m pc ≡ Some (LoadOff d Z 0) → z_of r ≡ a → is_sram a ≡ true → pc + 1 < 65536
+    → slice_set r d (byte_at sram a) ≡ r' → IsQuiet (held m r s pc sram) (held m r' s (pc + 1) sram)
 unfolding is_executed ask_of finish_of
 quiet_ld_z m r r' s pc sram d a is z ram below value =
     let there = z_there r a z ram in
@@ -104,21 +105,25 @@ quiet_ld_z m r r' s pc sram d a is z ram below value =
     ∙ ap (λ v. core m (slice_set r d v) s (wrapping_sum pc 1)) (loaded_is (core m r s pc) a (byte_at sram a) ram)
     ∙ ap (λ x. core m x s (wrapping_sum pc 1)) value ∙ pc_one m r' s pc below) (keeps_same sram)
 
-pub quiet_st_z : (m : Mote) (r : List ℕ) (s pc : ℕ) (sram : List ℕ) (d a v : ℕ) → flash_form m pc ≡ Some (StoreOff Z 0 d) → z_of r ≡ a → is_sram a ≡ true → pc + 1 < 65536 → slice_index r d ≡ v → KeepsKernel sram (with_byte sram a v)
-    → IsQuiet (held m r s pc sram) (held m r s (pc + 1) (with_byte sram a v))
+pub quiet_st_z : (m : Mote) (r : List ℕ) (s pc : ℕ) (sram : List ℕ) (d a v : ℕ) → flash_form m pc ≡ Some (StoreOff Z 0 d) → z_of r ≡ a → is_sram a ≡ true → pc + 1 < 65536 → slice_index r d ≡ v
+    → KeepsKernel sram (with_byte sram a v) → IsQuiet (held m r s pc sram) (held m r s (pc + 1) (with_byte sram a v))
 unfolding is_executed ask_of finish_of
 quiet_st_z m r s pc sram d a v is z ram below value keeps =
     let there = z_there r a z ram in
-    quiet_by (held m r s pc sram) (StoreOff Z 0 d) Done (with_byte sram a v) (core m r s (pc + 1)) is refl (ap (λ x. is_mapped (store_of x (slice_index r d))) there ∙ store_mapped a (slice_index r d) ram)
-    (ap (λ x. answer_of physical_calls (space_of (held m r s pc sram) None) (store_of x (slice_index r d))) there ∙ store_answered (space_of (held m r s pc sram) None) a (slice_index r d) ram ∙ ap (λ x. WentOn Done (with_sram (space_of (held m r s pc sram) None) a x)) value)
-    (ap (λ x. let c = stored (core m r s pc) x (slice_index r d) in with_counter c (wrapping_sum c.pc 1)) there ∙ ap (λ (c : Cpu). with_counter c (wrapping_sum c.pc 1)) (stored_is (core m r s pc) a (slice_index r d) ram) ∙ pc_one m r s pc below) keeps
+    quiet_by (held m r s pc sram) (StoreOff Z 0 d) Done (with_byte sram a v) (core m r s (pc + 1)) is refl
+    (ap (λ x. is_mapped (store_of x (slice_index r d))) there ∙ store_mapped a (slice_index r d) ram)
+    (ap (λ x. answer_of physical_calls (space_of (held m r s pc sram) None) (store_of x (slice_index r d))) there ∙ store_answered (space_of (held m r s pc sram) None) a (slice_index r d) ram
+    ∙ ap (λ x. WentOn Done (with_sram (space_of (held m r s pc sram) None) a x)) value)
+    (ap (λ x. let c = stored (core m r s pc) x (slice_index r d) in with_counter c (wrapping_sum c.pc 1)) there
+    ∙ ap (λ (c : Cpu). with_counter c (wrapping_sum c.pc 1)) (stored_is (core m r s pc) a (slice_index r d) ram) ∙ pc_one m r s pc below) keeps
 
 -- CALL from the top of the kernel's stack
 call_mapped : (ret : ℕ) → is_mapped (PushReturn 0x011F ret) ≡ true
 unfolding is_mapped
 call_mapped ret = refl
 
-call_answered : (space : Physical) (ret : ℕ) → answer_of physical_calls space (PushReturn 0x011F ret) ≡ WentOn Done (record space { sram = with_byte (with_byte space.sram 0x011F (ret % 256)) 0x011E (ret / 256) })
+call_answered : (space : Physical) (ret : ℕ)
+    → answer_of physical_calls space (PushReturn 0x011F ret) ≡ WentOn Done (record space { sram = with_byte (with_byte space.sram 0x011F (ret % 256)) 0x011E (ret / 256) })
 unfolding answer_of push_return_on
 call_answered space ret = refl
 
@@ -129,7 +134,8 @@ quiet_call m r s pc sram target is top below =
     let e : (pc + 2) % 65536 ≡ pc + 2 = omega arith in
     let sram' = with_byte (with_byte sram 0x011F ((pc + 2) % 256)) 0x011E ((pc + 2) / 256) in
     let cpu' : ℕ → Cpu = λ sp. record m.cpu { r = r; sreg = s; sp = wrapping_difference sp 2; pc = target } in
-    quiet_by (held m r s pc sram) (Call target) Done sram' (record m.cpu { r = r; sreg = s; sp = 0x011D; pc = target }) is refl (ap (λ sp. is_mapped (PushReturn sp (wrapping_sum pc 2))) top ∙ call_mapped (wrapping_sum pc 2))
+    quiet_by (held m r s pc sram) (Call target) Done sram' (record m.cpu { r = r; sreg = s; sp = 0x011D; pc = target }) is refl
+    (ap (λ sp. is_mapped (PushReturn sp (wrapping_sum pc 2))) top ∙ call_mapped (wrapping_sum pc 2))
     (ap₂ (λ sp ret. answer_of physical_calls (space_of (held m r s pc sram) None) (PushReturn sp ret)) top e ∙ call_answered (space_of (held m r s pc sram) None) (pc + 2))
     (ap cpu' top) (keeps_stack sram ((pc + 2) % 256) ((pc + 2) / 256))
 

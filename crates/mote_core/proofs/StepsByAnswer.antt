@@ -1,6 +1,7 @@
 -- A step from the one answer of the space, and quiet steps in a row.
-use Rattle.std.proofs.Common.{◌≡◌, ℕ, ◌<◌, ◌≤◌, ◌⊎◌, Bool, true, List, refl, ap, subst, arith, ◌∙◌, inl, inr}
-use Rattle.std.specs.Prelude.{Some, None, Option, ◌&&◌}
+use Rattle.std.proofs.Common.{◌≡◌, ℕ, ◌<◌, ◌≤◌, ◌⊎◌, true, List, refl, ap, subst, arith, ◌∙◌, inl, inr}
+use Rattle.std.specs.Prelude.{Some, None, Option}
+use Rattle.std.proofs.lemmas.Bool.{and_from}
 use Rattle.avr_isa.specs.declared.form.Form.{Form}
 use Rattle.avr_exec.specs.declared.cpu.Cpu.{Cpu}
 use Rattle.avr_exec.specs.declared.answer.Answer.{Answer}
@@ -22,28 +23,26 @@ use Rattle.mote_core.specs.Step.{form_at, next_size, space_of, IsPlainStep}
 use Rattle.mote_core.specs.QuietSteps.{KeepsKernel, IsQuiet}
 use Rattle.mote_core.proofs.Steps.{stepped_is}
 
-both_true : (a b : Bool) → a ≡ true → b ≡ true → a && b ≡ true
-both_true a b one other = ap (λ x. x && b) one ∙ other
-
 -- a step of this instruction may be made
 pub can_by : (f : Option Form) (form : Form) (cpu : Cpu) → f ≡ Some form → is_executed form ≡ true → is_mapped (ask_of form cpu) ≡ true → can_step f cpu ≡ true
 unfolding can_step
-can_by f form cpu is executed mapped = ap (λ x. can_step x cpu) is ∙ both_true (is_executed form) (is_mapped (ask_of form cpu)) executed mapped
+can_by f form cpu is executed mapped = ap (λ x. can_step x cpu) is ∙ and_from (is_executed form) (is_mapped (ask_of form cpu)) executed mapped
 
 -- the step, from what the space answers to what the instruction asks
 pub steps_by : (m : Mote) (form : Form) (answer : Answer) (sram : List ℕ) (devices : State) (shown : Plain) → form_at m ≡ Some form
     → answer_of physical_calls (space_of m None) (ask_of form m.cpu) ≡ WentOn answer (record (space_of m None) { sram = sram; devices = devices; line = line_shown shown })
     → IsPlainStep m shown (record m { cpu = finish_of form m.cpu (next_size m) answer; sram = sram; devices = devices })
 steps_by m form answer sram devices shown is answered = record {
-  executed = stepped_is m form is ∙ ap Some (exec_went physical_calls form m.cpu (space_of m None) (next_size m) answer (record (space_of m None) { sram = sram; devices = devices; line = line_shown shown }) answered);
+  executed = stepped_is m form is
+      ∙ ap Some (exec_went physical_calls form m.cpu (space_of m None) (next_size m) answer (record (space_of m None) { sram = sram; devices = devices; line = line_shown shown }) answered);
   flash = refl;
   swap = refl;
 }
 
 -- a quiet step, from that answer and from the core after it
 pub quiet_by : (m : Mote) (form : Form) (answer : Answer) (sram : List ℕ) (cpu : Cpu) → form_at m ≡ Some form → is_executed form ≡ true → is_mapped (ask_of form m.cpu) ≡ true
-    → answer_of physical_calls (space_of m None) (ask_of form m.cpu) ≡ WentOn answer (record (space_of m None) { sram = sram }) → finish_of form m.cpu (next_size m) answer ≡ cpu → KeepsKernel m.sram sram
-    → IsQuiet m (record m { cpu = cpu; sram = sram })
+    → answer_of physical_calls (space_of m None) (ask_of form m.cpu) ≡ WentOn answer (record (space_of m None) { sram = sram }) → finish_of form m.cpu (next_size m) answer ≡ cpu
+    → KeepsKernel m.sram sram → IsQuiet m (record m { cpu = cpu; sram = sram })
 quiet_by m form answer sram cpu is executed mapped answered finish keeps = record {
   can = can_by (form_at m) form m.cpu is executed mapped;
   step = subst (λ (c : Cpu). IsPlainStep m Went (record m { cpu = c; sram = sram })) finish (steps_by m form answer sram m.devices Went is answered);
@@ -62,7 +61,8 @@ keeps_then first second = record {
   above = λ a low high. second.above a low high ∙ first.above a low high;
 }
 
-keeps_byte : (sram : List ℕ) (a v : ℕ) → first_address ≤ a → (a < template_cells.behind) ⊎ (kernel_stack.first ≤ a) → (a < kernel_stack.behind) ⊎ (frames.first ≤ a) → KeepsKernel sram (with_byte sram a v)
+keeps_byte : (sram : List ℕ) (a v : ℕ) → first_address ≤ a → (a < template_cells.behind) ⊎ (kernel_stack.first ≤ a) → (a < kernel_stack.behind) ⊎ (frames.first ≤ a)
+    → KeepsKernel sram (with_byte sram a v)
 keeps_byte sram a v from low high = record {
   below = region_beside (between template_cells kernel_stack) sram a v from (omega arith) low;
   above = region_beside (between kernel_stack frames) sram a v from (omega arith) high;

@@ -4,7 +4,7 @@ use Rattle.std.specs.Prelude.{◌≡◌, ℕ, true, List, Option, None}
 use Rattle.std.specs.Option.{option_or}
 use Rattle.avr_exec.specs.declared.cpu.Cpu.{Cpu}
 use Rattle.avr_exec.specs.Registers.{with_status, with_counter}
-use Rattle.avr_ops.specs.declared.micro_op.MicroOp.{MicroOp}
+use Rattle.flash_model.specs.declared.micro_ops.MicroOp.{MicroOp}
 use Rattle.flash_model.specs.DecodeCache.{AreMicroOps}
 use Rattle.mote_devices.specs.declared.line.Line.{Line}
 use Rattle.mote_devices.specs.State.{State}

@@ -10,7 +10,7 @@ use Rattle.avr_exec.specs.Spaces.{Outcome, Went}
 use Rattle.avr_exec.specs.Execution.{exec_of}
 use Rattle.flash_words.specs.Memory.{new_flash}
 use Rattle.flash_words.specs.Pages.{word_at}
-use Rattle.base_laws.specs.Lists.{many}
+use Rattle.base.specs.Lists.{many}
 use Rattle.sram_layout.specs.Boot.{at_boot}
 use Rattle.sram_layout.specs.Cells.{kernel_stack_top}
 use Rattle.swap_store.specs.Slots.{zero_slots}

@@ -5,7 +5,7 @@ ghost use Rattle.avr_isa.specs.Addresses.{wrapping_sum, relative as relative_of}
 ghost use Rattle.avr_exec.specs.Registers.{with_register, pair, with_pair};
 ghost use Rattle.avr_exec.specs.Execution.{exec_of};
 ghost use Rattle.avr_exec.specs.Spaces.{Went};
-ghost use Rattle.avr_ops.specs.MicroOps.{form_of, next_size_in, has_form, is_in_sram};
+ghost use Rattle.flash_model.specs.MicroOps.{form_of, next_size_in, has_form, is_in_sram};
 ghost use Rattle.mote_devices.specs.State.{State};
 ghost use Rattle.sram_layout.specs.Bytes.{byte_at, with_byte};
 ghost use Rattle.sram_layout.specs.Regions.{whole_sram, is_within};
@@ -19,7 +19,7 @@ use avr_flags::{
     adc, add, adiw, and_bits, asr, com, dec, eor, inc, lsr, mul, neg, or_bits, ror, sbc, sbiw, sub,
 };
 use avr_isa::{Base, relative};
-use avr_ops::MicroOp;
+use flash_model::MicroOp;
 use sram_layout::Sram;
 
 /// A step on the fast path: by the micro-operation that stands at `place` among those of flash, of the core whose SREG is `sreg` and
@@ -44,7 +44,7 @@ pub fn fast_move(
 
 /// Executes a micro-operation of the core whose SREG is `sreg` and whose pc is `place`: those that `cpu` has are not looked at.
 /// Tells the new pc. None where it stands for no instruction, or touches an address outside SRAM: then nothing is done.
-#[tactic(auto, unfolding(avr_ops::specs::MicroOps::form_of, avr_ops::specs::MicroOps::next_size_in, avr_ops::specs::MicroOps::has_form, avr_ops::specs::MicroOps::is_in_sram, avr_exec::specs::Execution::exec_of, avr_exec::specs::Execution::answer_of, avr_exec::specs::Asks::ask_of, avr_exec::specs::Asks::load_of, avr_exec::specs::Asks::store_of, avr_exec::specs::Asks::finish_of, avr_exec::specs::Effects::loaded, avr_exec::specs::Effects::stored, avr_exec::specs::Registers::own_byte, avr_exec::specs::Registers::with_own_byte, avr_exec::specs::Arithmetic::two_of, avr_exec::specs::Arithmetic::immediate_of, avr_exec::specs::Arithmetic::word_of, avr_exec::specs::Arithmetic::one_of, avr_exec::specs::StackRules::push_return_on))]
+#[tactic(auto, unfolding(avr_exec::specs::Arithmetic::immediate_of, avr_exec::specs::Arithmetic::one_of, avr_exec::specs::Arithmetic::two_of, avr_exec::specs::Arithmetic::word_of, avr_exec::specs::Asks::ask_of, avr_exec::specs::Asks::finish_of, avr_exec::specs::Asks::load_of, avr_exec::specs::Asks::store_of, avr_exec::specs::Effects::loaded, avr_exec::specs::Effects::stored, avr_exec::specs::Execution::answer_of, avr_exec::specs::Execution::exec_of, avr_exec::specs::Registers::own_byte, avr_exec::specs::Registers::with_own_byte, avr_exec::specs::StackRules::push_return_on, flash_model::specs::MicroOps::form_of, flash_model::specs::MicroOps::has_form, flash_model::specs::MicroOps::is_in_sram, flash_model::specs::MicroOps::next_size_in,))]
 #[inline(always)]
 fn fast_step(
     op: &MicroOp,
@@ -174,7 +174,7 @@ fn fast_step(
 
 /// A micro-operation that is met more seldom; each touches the core's registers alone. None for any other: then nothing is
 /// done. It is apart since a check takes time with the square of a function's length.
-#[tactic(auto, unfolding(avr_ops::specs::MicroOps::form_of, avr_ops::specs::MicroOps::next_size_in, avr_ops::specs::MicroOps::has_form, avr_exec::specs::Execution::exec_of, avr_exec::specs::Execution::answer_of, avr_exec::specs::Asks::ask_of, avr_exec::specs::Asks::finish_of, avr_exec::specs::Arithmetic::two_of, avr_exec::specs::Arithmetic::immediate_of, avr_exec::specs::Arithmetic::one_of))]
+#[tactic(auto, unfolding(avr_exec::specs::Arithmetic::immediate_of, avr_exec::specs::Arithmetic::one_of, avr_exec::specs::Arithmetic::two_of, avr_exec::specs::Asks::ask_of, avr_exec::specs::Asks::finish_of, avr_exec::specs::Execution::answer_of, avr_exec::specs::Execution::exec_of, flash_model::specs::MicroOps::form_of, flash_model::specs::MicroOps::has_form, flash_model::specs::MicroOps::next_size_in,))]
 #[inline(always)]
 fn seldom_step(op: &MicroOp, cpu: &mut Cpu, sreg: &mut u8, place: usize) -> Option<usize>
     requires low { place < 0xF000 }

@@ -1,5 +1,6 @@
 -- What the layers above need of a program's accesses.
 use Rattle.std.proofs.Common.{◌≡◌, ℕ, ◌+◌, ◌<◌, ◌≤◌, Bool, true, false, cond, refl, ap, ◌∙◌, arith}
+use Rattle.std.proofs.lemmas.Bool.{cond_both, cond-true, cond-false}
 use Rattle.std.proofs.lemmas.Bool.Decides.{nat_tests}
 use Rattle.avr_isa.specs.IoTable.{can_read, can_write, register_at}
 use Rattle.avr_isa.specs.declared.io.IoRegister.{IoRegister}
@@ -20,19 +21,19 @@ can_write_below a can = grind (arith, nat_tests)
 -- an access that is allowed is answered, and one that isn't is refused
 pub read_allowed : (s : State) (a : ℕ) → can_read a ≡ true → read s a ≡ read_from s (register_at a) a
 unfolding read
-read_allowed s a can = ap (λ b. cond b (read_from s (register_at a) a) Refused) can
+read_allowed s a can = cond-true (can_read a) _ _ can
 
 pub read_refused : (s : State) (a : ℕ) → can_read a ≡ false → read s a ≡ Refused
 unfolding read
-read_refused s a cannot = ap (λ b. cond b (read_from s (register_at a) a) Refused) cannot
+read_refused s a cannot = cond-false (can_read a) _ _ cannot
 
 pub write_allowed : (s : State) (a v : ℕ) → can_write a ≡ true → write s a v ≡ Gave (line_written (register_at a) v) (after_write (register_at a) s a v)
 unfolding write
-write_allowed s a v can = ap (λ b. cond b (Gave (line_written (register_at a) v) (after_write (register_at a) s a v)) Refused) can
+write_allowed s a v can = cond-true (can_write a) _ _ can
 
 pub write_refused : (s : State) (a v : ℕ) → can_write a ≡ false → write s a v ≡ Refused
 unfolding write
-write_refused s a v cannot = ap (λ b. cond b (Gave (line_written (register_at a) v) (after_write (register_at a) s a v)) Refused) cannot
+write_refused s a v cannot = cond-false (can_write a) _ _ cannot
 
 pub modify_allowed : (s : State) (a clear set : ℕ) → can_read a ≡ true → can_write a ≡ true → modify s a clear set ≡ written_back (read_from s (register_at a) a) a clear set
 unfolding modify
@@ -55,10 +56,7 @@ polls_from false register s = omega (arith, polls_after_value register s)
 
 pub polls_after_read : (s : State) (a : ℕ) → Afterwards (λ next. next.polls ≤ s.polls + 1) (read s a)
 unfolding read
-polls_after_read s a = elim (can_read a) as (λ b. Afterwards (λ next. next.polls ≤ s.polls + 1) (cond b (read_from s (register_at a) a) Refused)) [
-  | true ↦ polls_from (is_polled (register_at a)) (register_at a) s
-  | false ↦ tt
-]
+polls_after_read s a = cond_both (can_read a) _ _ (Afterwards (λ next. next.polls ≤ s.polls + 1)) (λ can. polls_from (is_polled (register_at a)) (register_at a) s) (λ cannot. tt)
 
 pub polls_after_write : (register : IoRegister) (s : State) (a v : ℕ) → (after_write register s a v).polls ≡ s.polls
 polls_after_write SerialStatus s a v = refl
@@ -68,15 +66,11 @@ polls_after_write _ s a v = refl
 
 written_polls : (n : ℕ) (asked : Asked ℕ) (a clear set : ℕ) → Afterwards (λ next. next.polls ≤ n) asked → Afterwards (λ next. next.polls ≤ n) (written_back asked a clear set)
 unfolding write
-written_polls n (Gave v now) a clear set few = elim (can_write a) as (λ b. Afterwards (λ next. next.polls ≤ n) (cond b (Gave (line_written (register_at a) (written_byte v clear set)) (after_write (register_at a) now a (written_byte v clear set))) Refused)) [
-  | true ↦ omega (arith, few, polls_after_write (register_at a) now a (written_byte v clear set))
-  | false ↦ tt
-]
+written_polls n (Gave v now) a clear set few =
+    cond_both (can_write a) _ _ (Afterwards (λ next. next.polls ≤ n)) (λ can. omega (arith, few, polls_after_write (register_at a) now a (written_byte v clear set))) (λ cannot. tt)
 written_polls n Refused a clear set few = tt
 
 pub polls_after_modify : (s : State) (a clear set : ℕ) → Afterwards (λ next. next.polls ≤ s.polls + 1) (modify s a clear set)
 unfolding modify
-polls_after_modify s a clear set = elim (can_write a) as (λ b. Afterwards (λ next. next.polls ≤ s.polls + 1) (cond b (written_back (read s a) a clear set) Refused)) [
-  | true ↦ written_polls (s.polls + 1) (read s a) a clear set (polls_after_read s a)
-  | false ↦ tt
-]
+polls_after_modify s a clear set =
+    cond_both (can_write a) _ _ (Afterwards (λ next. next.polls ≤ s.polls + 1)) (λ can. written_polls (s.polls + 1) (read s a) a clear set (polls_after_read s a)) (λ cannot. tt)

@@ -5,7 +5,7 @@ use Rattle.std.proofs.lemmas.Bool.Decides.{nat_tests}
 use Rattle.std.proofs.lemmas.List.{get_or-drop, length-drop}
 use Rattle.std.specs.Prelude.{filter, fold, AllPairs}
 use Rattle.input_script.specs.declared.input.Input.{Input}
-use Rattle.input_script.specs.declared.input.Input.TheVariants.{Pin, Uart, Adc, Int}
+use Rattle.input_script.specs.declared.input.Input.TheVariants.{Pin}
 use Rattle.input_script.specs.declared.input.Event.{Event}
 use Rattle.mote_devices.specs.Inputs.{Received, after_input, is_due, at_poll}
 use Rattle.mote_devices.specs.Queue.{first_is_due, first_taken, with_first}
@@ -15,15 +15,11 @@ with_coming r events = record r { coming = events }
 
 pub coming_kept : (r : Received) (input : Input) → (after_input r input).coming ≡ r.coming
 coming_kept r (Pin port value) = refl
-coming_kept r (Uart byte) = refl
-coming_kept r (Adc value) = refl
-coming_kept r (Int k) = refl
+coming_kept r _ = refl
 
 coming_apart : (r : Received) (input : Input) (events : List Event) → with_coming (after_input r input) events ≡ after_input (with_coming r events) input
 coming_apart r (Pin port value) events = refl
-coming_apart r (Uart byte) events = refl
-coming_apart r (Adc value) events = refl
-coming_apart r (Int k) events = refl
+coming_apart r _ events = refl
 
 abbrev pub all_after : Received → List Event → Received
 all_after r events = fold (λ (now : Received) (event : Event). after_input now event.input) r events
@@ -35,7 +31,8 @@ abbrev pub later : ℕ → List Event → List Event
 later n events = filter (λ (event : Event). not (is_due n event)) events
 
 -- a first event that is due takes effect first
-first_of : (n : ℕ) (r : Received) (event : Event) (events : List Event) → is_due n event ≡ true → at_poll n (after_input (with_coming r events) event.input) ≡ at_poll n (with_coming r (event ∷ events))
+first_of : (n : ℕ) (r : Received) (event : Event) (events : List Event) → is_due n event ≡ true
+    → at_poll n (after_input (with_coming r events) event.input) ≡ at_poll n (with_coming r (event ∷ events))
 unfolding at_poll
 first_of n r event events is =
     ap (λ coming. all_after (with_coming (after_input (with_coming r events) event.input) (later n coming)) (due n coming)) (coming_kept (with_coming r events) event.input)
@@ -74,15 +71,13 @@ unfolding at_poll
 at_poll-none n r none = ap₂ (λ coming taken. all_after (with_coming r coming) taken) (later_all n r.coming none) (due_none n r.coming none)
 
 -- in a schedule no event is due where the next isn't
-pub none_due : (n : ℕ) (script : List Event) (taken : ℕ) → AllPairs (λ (earlier : Event) (later : Event). earlier.at ≤ later.at) script → ((d : Event) → taken < length script → n < (get_or script taken d).at) → NoneDue n (drop taken script)
+pub none_due : (n : ℕ) (script : List Event) (taken : ℕ) → AllPairs (λ (earlier : Event) (later : Event). earlier.at ≤ later.at) script
+    → ((d : Event) → taken < length script → n < (get_or script taken d).at) → NoneDue n (drop taken script)
 none_due n script taken ordered next k d below =
     let inside : taken + k < length script = omega (arith, length-drop taken script) in
     let first = next d (omega arith) in
     let here : (get_or (drop taken script) k d).at ≡ (get_or script (taken + k) d).at = ap (λ (e : Event). e.at) (get_or-drop taken script k d) in
     elim (cases_lt taken (taken + k)) [
       | inl above ↦ omega (arith, ordered taken (taken + k) d above inside, here, first)
-      | inr same ↦
-          let zero_k : taken + k ≡ taken = omega arith in
-          let there : (get_or script (taken + k) d).at ≡ (get_or script taken d).at = ap (λ j. (get_or script j d).at) zero_k in
-          omega (arith, here, there, first)
+      | inr same ↦ omega (arith, here, ap (λ j. (get_or script j d).at) (let zero_k : taken + k ≡ taken = omega arith in zero_k), first)
     ]

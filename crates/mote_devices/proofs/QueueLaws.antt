@@ -8,6 +8,7 @@ use Rattle.std.specs.Prelude.{slice_set, nat_lt, bit_or, ◌^◌, if◌then◌el
 use Rattle.input_script.specs.declared.input.Input.{Input}
 use Rattle.input_script.specs.declared.input.Input.TheVariants.{Pin, Uart, Adc, Int}
 use Rattle.input_script.specs.declared.input.Event.{Event}
+use Rattle.mote_devices.specs.declared.inputs.Inputs.TheInside.{Inside}
 use Rattle.mote_devices.specs.Inputs.{Received, after_input}
 use Rattle.mote_devices.specs.Queue.{serial_byte, bytes_between, with_first, first_taken}
 
@@ -22,7 +23,8 @@ bytes_between-none events n =
     ap (λ k. flat_map brought (take k (drop n events))) zero
 
 -- the first event's byte, then the others
-pub bytes_between-first : (events : List Event) (from to : ℕ) (d : Event) → from < to → to ≤ length events → bytes_between events from to ≡ serial_byte (get_or events from d).input ++ bytes_between events (from + 1) to
+pub bytes_between-first : (events : List Event) (from to : ℕ) (d : Event) → from < to → to ≤ length events
+    → bytes_between events from to ≡ serial_byte (get_or events from d).input ++ bytes_between events (from + 1) to
 unfolding bytes_between
 bytes_between-first events from to d some within =
     let more : to - from ≡ suc (to - (from + 1)) = omega arith in
@@ -31,81 +33,75 @@ bytes_between-first events from to d some within =
     ap (flat_map brought) whole ∙ ap (λ j. brought (get_or events from d) ++ flat_map brought (take (to - (from + 1)) (drop j events))) (sym (add-one from))
 
 -- the others' bytes, then the last event's
-pub bytes_between-last : (events : List Event) (from to : ℕ) (d : Event) → from ≤ to → to < length events → bytes_between events from (to + 1) ≡ bytes_between events from to ++ serial_byte (get_or events to d).input
+pub bytes_between-last : (events : List Event) (from to : ℕ) (d : Event) → from ≤ to → to < length events
+    → bytes_between events from (to + 1) ≡ bytes_between events from to ++ serial_byte (get_or events to d).input
 unfolding bytes_between
 bytes_between-last events from to d order within =
     let more : to + 1 - from ≡ suc (to - from) = omega arith in
     let inside : to - from < length (drop from events) = omega (arith, length-drop from events) in
     let last : get_or (drop from events) (to - from) d ≡ get_or events to d = get_or-drop from events (to - from) d ∙ ap (λ k. get_or events k d) (omega arith) in
-    let whole : slice_range events from (to + 1) ≡ slice_range events from to ++ get_or events to d ∷ [] = ap (λ k. take k (drop from events)) more ∙ take-suc (drop from events) (to - from) d inside ∙ ap (λ e. slice_range events from to ++ e ∷ []) last in
-    ap (flat_map brought) whole ∙ flat_map-append brought (slice_range events from to) (get_or events to d ∷ []) ∙ ap (λ bytes. flat_map brought (slice_range events from to) ++ bytes) (append-nil (brought (get_or events to d)))
+    let whole : slice_range events from (to + 1) ≡ slice_range events from to ++ get_or events to d ∷ [] =
+    ap (λ k. take k (drop from events)) more ∙ take-suc (drop from events) (to - from) d inside ∙ ap (λ e. slice_range events from to ++ e ∷ []) last in
+    ap (flat_map brought) whole ∙ flat_map-append brought (slice_range events from to) (get_or events to d ∷ [])
+    ∙ ap (λ bytes. flat_map brought (slice_range events from to) ++ bytes) (append-nil (brought (get_or events to d)))
 
 -- what is received, where the first `taken` events of a script have taken effect
 abbrev pub received_at : List ℕ → ℕ → ℕ → List Event → ℕ → ℕ → Received
 received_at pins converter pending script taken serial = record { pins = pins; converter = converter; queue = bytes_between script serial taken; pending = pending; coming = drop taken script }
 
--- the next event takes effect
-next_taken : (pins : List ℕ) (converter pending : ℕ) (script : List Event) (taken serial : ℕ) (d : Event) → taken < length script
-    → with_first (received_at pins converter pending script taken serial) ≡ after_input (record (received_at pins converter pending script taken serial) { coming = drop (taken + 1) script }) (get_or script taken d).input
-next_taken pins converter pending script taken serial d within =
-    let r = received_at pins converter pending script taken serial in
-    ap (λ events. first_taken (record r { coming = events }) events) (drop-cons script taken d within)
-    ∙ ap (λ j. after_input (record r { coming = drop j script }) (get_or script taken d).input) (sym (add-one taken))
+abbrev pub received_of : Inside → Received
+received_of i = received_at i.pins i.converter i.pending i.script.events i.taken i.serial
 
-queue_next : (script : List Event) (taken serial : ℕ) (d : Event) (input : Input) → serial ≤ taken → taken < length script → (get_or script taken d).input ≡ input → bytes_between script serial (taken + 1) ≡ bytes_between script serial taken ++ serial_byte input
-queue_next script taken serial d input order within is =
-    bytes_between-last script serial taken d order within ∙ ap (λ i. bytes_between script serial taken ++ serial_byte i) is
+-- The next event of what is received now takes effect.
+module _ (i : Inside) (now : Received) (d : Event) (is_now : received_of i ≡ now) (some : 0 < length now.coming) (order : i.serial ≤ i.taken) where
+  within : i.taken < length i.script.events
+  within =
+      let coming : length (drop i.taken i.script.events) ≡ length now.coming = ap (λ (r : Received). length r.coming) is_now in
+      omega (arith, length-drop i.taken i.script.events)
 
-next_is : (pins : List ℕ) (converter pending : ℕ) (script : List Event) (taken serial : ℕ) (d : Event) (input : Input) → taken < length script → (get_or script taken d).input ≡ input
-    → with_first (received_at pins converter pending script taken serial) ≡ after_input (record (received_at pins converter pending script taken serial) { coming = drop (taken + 1) script }) input
-next_is pins converter pending script taken serial d input within is =
-    next_taken pins converter pending script taken serial d within ∙ ap (after_input (record (received_at pins converter pending script taken serial) { coming = drop (taken + 1) script })) is
+  next_is : (input : Input) → (get_or i.script.events i.taken d).input ≡ input → after_input (record (received_of i) { coming = drop (i.taken + 1) i.script.events }) input ≡ with_first now
+  next_is input is =
+      rw (← is_now) (sym (
+      ap (λ events. first_taken (record (received_of i) { coming = events }) events) (drop-cons i.script.events i.taken d within)
+      ∙ ap (λ j. after_input (record (received_of i) { coming = drop j i.script.events }) (get_or i.script.events i.taken d).input) (sym (add-one i.taken))
+      ∙ ap (after_input (record (received_of i) { coming = drop (i.taken + 1) i.script.events })) is))
 
--- one lemma a kind of input
-pub pin_taken : (pins : List ℕ) (converter pending : ℕ) (script : List Event) (taken serial : ℕ) (d : Event) (port value : ℕ) → serial ≤ taken → taken < length script → (get_or script taken d).input ≡ Pin port value
-    → received_at (slice_set pins port value) converter pending script (taken + 1) serial ≡ with_first (received_at pins converter pending script taken serial)
-pin_taken pins converter pending script taken serial d port value order within is =
-    let queue : bytes_between script serial (taken + 1) ≡ bytes_between script serial taken = queue_next script taken serial d (Pin port value) order within is ∙ append-nil (bytes_between script serial taken) in
-    ap (λ bytes. record { pins = slice_set pins port value; converter = converter; queue = bytes; pending = pending; coming = drop (taken + 1) script }) queue
-    ∙ sym (next_is pins converter pending script taken serial d (Pin port value) within is)
+  queue_next : (input : Input) → (get_or i.script.events i.taken d).input ≡ input
+      → bytes_between i.script.events i.serial (i.taken + 1) ≡ bytes_between i.script.events i.serial i.taken ++ serial_byte input
+  queue_next input is = bytes_between-last i.script.events i.serial i.taken d order within ∙ ap (λ j. bytes_between i.script.events i.serial i.taken ++ serial_byte j) is
 
-pub other_pin_taken : (pins : List ℕ) (converter pending : ℕ) (script : List Event) (taken serial : ℕ) (d : Event) (port value : ℕ) → serial ≤ taken → taken < length script → (get_or script taken d).input ≡ Pin port value → length pins ≤ port
-    → received_at pins converter pending script (taken + 1) serial ≡ with_first (received_at pins converter pending script taken serial)
-other_pin_taken pins converter pending script taken serial d port value order within is past =
-    ap (λ changed. received_at changed converter pending script (taken + 1) serial) (sym (set_past pins port value past)) ∙ pin_taken pins converter pending script taken serial d port value order within is
+  queue_same : (input : Input) → (get_or i.script.events i.taken d).input ≡ input → serial_byte input ≡ []
+      → bytes_between i.script.events i.serial (i.taken + 1) ≡ bytes_between i.script.events i.serial i.taken
+  queue_same input is none = queue_next input is ∙ ap (λ bytes. bytes_between i.script.events i.serial i.taken ++ bytes) none ∙ append-nil (bytes_between i.script.events i.serial i.taken)
 
-pub uart_taken : (pins : List ℕ) (converter pending : ℕ) (script : List Event) (taken serial : ℕ) (d : Event) (byte : ℕ) → serial ≤ taken → taken < length script → (get_or script taken d).input ≡ Uart byte
-    → received_at pins converter pending script (taken + 1) serial ≡ with_first (received_at pins converter pending script taken serial)
-uart_taken pins converter pending script taken serial d byte order within is =
-    ap (λ bytes. record { pins = pins; converter = converter; queue = bytes; pending = pending; coming = drop (taken + 1) script }) (queue_next script taken serial d (Uart byte) order within is)
-    ∙ sym (next_is pins converter pending script taken serial d (Uart byte) within is)
+  -- one lemma a kind of input
+  pub pin_taken : (port value : ℕ) → (get_or i.script.events i.taken d).input ≡ Pin port value → received_of (record i { pins = slice_set i.pins port value; taken = i.taken + 1 }) ≡ with_first now
+  pin_taken port value is = rw (queue_same (Pin port value) is refl) (next_is (Pin port value) is)
 
-pub adc_taken : (pins : List ℕ) (converter pending : ℕ) (script : List Event) (taken serial : ℕ) (d : Event) (value : ℕ) → serial ≤ taken → taken < length script → (get_or script taken d).input ≡ Adc value
-    → received_at pins value pending script (taken + 1) serial ≡ with_first (received_at pins converter pending script taken serial)
-adc_taken pins converter pending script taken serial d value order within is =
-    let queue : bytes_between script serial (taken + 1) ≡ bytes_between script serial taken = queue_next script taken serial d (Adc value) order within is ∙ append-nil (bytes_between script serial taken) in
-    ap (λ bytes. record { pins = pins; converter = value; queue = bytes; pending = pending; coming = drop (taken + 1) script }) queue
-    ∙ sym (next_is pins converter pending script taken serial d (Adc value) within is)
+  pub other_pin_taken : (port value : ℕ) → (get_or i.script.events i.taken d).input ≡ Pin port value → length i.pins ≤ port → received_of (record i { taken = i.taken + 1 }) ≡ with_first now
+  other_pin_taken port value is past = ap (λ changed. received_of (record i { pins = changed; taken = i.taken + 1 })) (sym (set_past i.pins port value past)) ∙ pin_taken port value is
 
-pub int_taken : (pins : List ℕ) (converter pending : ℕ) (script : List Event) (taken serial : ℕ) (d : Event) (k more : ℕ) → serial ≤ taken → taken < length script → (get_or script taken d).input ≡ Int k
-    → more ≡ (if nat_lt k 8 then bit_or pending (2 ^ k) else pending) → received_at pins converter more script (taken + 1) serial ≡ with_first (received_at pins converter pending script taken serial)
-int_taken pins converter pending script taken serial d k more order within is same =
-    let queue : bytes_between script serial (taken + 1) ≡ bytes_between script serial taken = queue_next script taken serial d (Int k) order within is ∙ append-nil (bytes_between script serial taken) in
-    ap (λ bytes. record { pins = pins; converter = converter; queue = bytes; pending = more; coming = drop (taken + 1) script }) queue
-    ∙ ap (λ p. record { pins = pins; converter = converter; queue = bytes_between script serial taken; pending = p; coming = drop (taken + 1) script }) same
-    ∙ sym (next_is pins converter pending script taken serial d (Int k) within is)
+  pub uart_taken : (byte : ℕ) → (get_or i.script.events i.taken d).input ≡ Uart byte → received_of (record i { taken = i.taken + 1 }) ≡ with_first now
+  uart_taken byte is = rw (queue_next (Uart byte) is) (next_is (Uart byte) is)
+
+  pub adc_taken : (value : ℕ) → (get_or i.script.events i.taken d).input ≡ Adc value → received_of (record i { converter = value; taken = i.taken + 1 }) ≡ with_first now
+  adc_taken value is = rw (queue_same (Adc value) is refl) (next_is (Adc value) is)
+
+  pub int_taken : (k more : ℕ) → (get_or i.script.events i.taken d).input ≡ Int k → more ≡ (if nat_lt k 8 then bit_or i.pending (2 ^ k) else i.pending)
+      → received_of (record i { pending = more; taken = i.taken + 1 }) ≡ with_first now
+  int_taken k more is same = rw (queue_same (Int k) is refl, same) (next_is (Int k) is)
 
 none_brought : (input : Input) → ((byte : ℕ) → input ≡ Uart byte → ⊥) → serial_byte input ≡ []
-none_brought (Pin port value) other = refl
 none_brought (Uart byte) other = absurd (other byte refl)
-none_brought (Adc value) other = refl
-none_brought (Int k) other = refl
+none_brought _ other = refl
 
 -- an event that isn't the serial port's brings it nothing
-pub passed : (events : List Event) (from to : ℕ) (d : Event) → from < to → to ≤ length events → ((byte : ℕ) → (get_or events from d).input ≡ Uart byte → ⊥) → bytes_between events from to ≡ bytes_between events (from + 1) to
+pub passed : (events : List Event) (from to : ℕ) (d : Event) → from < to → to ≤ length events → ((byte : ℕ) → (get_or events from d).input ≡ Uart byte → ⊥)
+    → bytes_between events from to ≡ bytes_between events (from + 1) to
 passed events from to d some within other =
     bytes_between-first events from to d some within ∙ ap (λ bytes. bytes ++ bytes_between events (from + 1) to) (none_brought (get_or events from d).input other)
 
-pub found : (events : List Event) (from to : ℕ) (d : Event) (byte : ℕ) → from < to → to ≤ length events → (get_or events from d).input ≡ Uart byte → bytes_between events from to ≡ byte ∷ bytes_between events (from + 1) to
+pub found : (events : List Event) (from to : ℕ) (d : Event) (byte : ℕ) → from < to → to ≤ length events → (get_or events from d).input ≡ Uart byte
+    → bytes_between events from to ≡ byte ∷ bytes_between events (from + 1) to
 found events from to d byte some within is =
     bytes_between-first events from to d some within ∙ ap (λ i. serial_byte i ++ bytes_between events (from + 1) to) is

@@ -18,7 +18,8 @@ poll_coming : (n : ℕ) (r : Received) → (at_poll n r).coming ≡ later n r.co
 unfolding at_poll
 poll_coming n r = all_coming (record r { coming = later n r.coming }) (due n r.coming)
 
-later_by : (n : ℕ) (event : Event) (events : List Event) (b : Bool) → is_due n event ≡ b → later n (later n events) ≡ later n events → later n (cond (not b) (event ∷ later n events) (later n events)) ≡ cond (not b) (event ∷ later n events) (later n events)
+later_by : (n : ℕ) (event : Event) (events : List Event) (b : Bool) → is_due n event ≡ b → later n (later n events) ≡ later n events
+    → later n (cond (not b) (event ∷ later n events) (later n events)) ≡ cond (not b) (event ∷ later n events) (later n events)
 later_by n event events true is rest = rest
 later_by n event events false is rest = ap (λ b. cond (not b) (event ∷ later n (later n events)) (later n (later n events))) is ∙ ap (λ l. event ∷ l) rest
 

@@ -1,5 +1,6 @@
 -- What SLEEP waits for: the first event that brings an enabled interrupt.
-use Rattle.std.proofs.Common.{◌+◌, ◌≡◌, ℕ, zero, suc, ◌*◌, ◌^◌, ◌<◌, ◌≤◌, Bool, true, false, not, ◌&&◌, ◌||◌, ◌==◌, leb, cond, List, [], ◌∷◌, length, get_or, drop, arith, refl, sym, ap, ap₂, subst, ◌∙◌}
+use Rattle.std.proofs.Common.{◌+◌, ◌≡◌, ℕ, zero, suc, ◌*◌, ◌^◌, ◌<◌, ◌≤◌, Bool, true, false, not, ◌&&◌, ◌||◌, ◌==◌, leb, cond, List, [], ◌∷◌, length, get_or, drop, arith, refl, sym, ap, ap₂, subst}
+use Rattle.std.proofs.Common.{◌∙◌}
 use Rattle.std.proofs.lemmas.Bool.{and_parts}
 use Rattle.std.proofs.lemmas.Bool.Decides.{nat_tests}
 use Rattle.std.proofs.lemmas.Nat.{and_or_apart, and_comm}
@@ -23,7 +24,8 @@ use Rattle.std.proofs.Common.{append_assoc, ◌++◌}
 use Rattle.mote_devices.proofs.PollLaws.{coming_kept, not_due, at_poll-with_first, at_poll-none, NoneDue, all_after, due, later}
 
 -- events in order
-rising_by : (events : List Event) (n : ℕ) → ((k : ℕ) (d : Event) → k < length events → n ≤ (get_or events k d).at) → AllPairs (λ (earlier : Event) (later : Event). earlier.at ≤ later.at) events → Rising n events
+rising_by : (events : List Event) (n : ℕ) → ((k : ℕ) (d : Event) → k < length events → n ≤ (get_or events k d).at) → AllPairs (λ (earlier : Event) (later : Event). earlier.at ≤ later.at) events
+    → Rising n events
 rising_by [] n first ordered = tt
 rising_by (event ∷ events) n first ordered = (
   first 0 event (omega arith),
@@ -175,20 +177,23 @@ enabled_behind s n front events off cut none =
     enabled_at s n off ∙ ap (λ l. any_calls mask (due m l)) cut ∙ ap (any_calls mask) (filter-append (is_due m) front events) ∙ any_append mask (due m front) (due m events)
     ∙ ap (λ b. b || any_calls mask (due m events)) (any_due mask m front none)
 
-first_by : (s : State) (front : List Event) (event : Event) (events : List Event) (b c : Bool) → is_enabled s ≡ false → s.received.coming ≡ front ++ event ∷ events → any_calls (stored s mask_address) front ≡ false
+first_by : (s : State) (front : List Event) (event : Event) (events : List Event) (b c : Bool) → is_enabled s ≡ false → s.received.coming ≡ front ++ event ∷ events
+    → any_calls (stored s mask_address) front ≡ false
     → Rising event.at events → calls (stored s mask_address) event.input ≡ b → is_enabled (brought_to event.at s) ≡ c
     → (any_calls (stored s mask_address) (front ++ event ∷ []) ≡ false → IsFirst s events) → IsFirst s (event ∷ events)
 first_by s front event events true c off cut none rising is now rest =
     let mask = stored s mask_address in
     let m = max s.polls event.at in
-    let there : any_calls mask (due m (event ∷ events)) ≡ true = ap (λ d. any_calls mask (cond d (event ∷ due m events) (due m events))) (due_max s.polls event.at event refl) ∙ ap (λ b. b || any_calls mask (due m events)) is in
+    let there : any_calls mask (due m (event ∷ events)) ≡ true = ap (λ d. any_calls mask (cond d (event ∷ due m events) (due m events))) (due_max s.polls event.at event refl)
+    ∙ ap (λ b. b || any_calls mask (due m events)) is in
     ap (λ d. cond d (Some (brought_to event.at s)) (find_by events s)) (enabled_behind s event.at front (event ∷ events) off cut none ∙ there)
     ∙ sym (ap (λ d. option_map (λ n. brought_to n s) (cond d (Some event.at) (first_call mask events))) is)
 first_by s front event events false true off cut none rising is now rest =
     let mask = stored s mask_address in
     let m = max s.polls event.at in
     let there : any_calls mask (due m (event ∷ events)) ≡ true = sym (enabled_behind s event.at front (event ∷ events) off cut none) ∙ now in
-    let on : any_calls mask (due m events) ≡ true = sym (ap (λ d. any_calls mask (cond d (event ∷ due m events) (due m events))) (due_max s.polls event.at event refl) ∙ ap (λ b. b || any_calls mask (due m events)) is) ∙ there in
+    let on : any_calls mask (due m events) ≡ true =
+    sym (ap (λ d. any_calls mask (cond d (event ∷ due m events) (due m events))) (due_max s.polls event.at event refl) ∙ ap (λ b. b || any_calls mask (due m events)) is) ∙ there in
     let f = found mask m event.at events rising on in
     ap (λ d. cond d (Some (brought_to event.at s)) (find_by events s)) now
     ∙ ap Some (sym (same_number s f.0 event.at f.2 f.3))
@@ -198,7 +203,8 @@ first_by s front event events false false off cut none rising is now rest =
     ap (λ d. cond d (Some (brought_to event.at s)) (find_by events s)) now ∙ rest (any_append mask front (event ∷ []) ∙ ap₂ (λ a b. a || (b || false)) none is)
     ∙ sym (ap (λ d. option_map (λ n. brought_to n s) (cond d (Some event.at) (first_call mask events))) is)
 
-first_of : (s : State) (front events : List Event) (low : ℕ) → is_enabled s ≡ false → s.received.coming ≡ front ++ events → any_calls (stored s mask_address) front ≡ false → Rising low events → IsFirst s events
+first_of : (s : State) (front events : List Event) (low : ℕ) → is_enabled s ≡ false → s.received.coming ≡ front ++ events → any_calls (stored s mask_address) front ≡ false → Rising low events
+    → IsFirst s events
 first_of s front [] low off cut none rising = refl
 first_of s front (event ∷ events) low off cut none rising =
     first_by s front event events (calls (stored s mask_address) event.input) (is_enabled (brought_to event.at s)) off cut none rising.1 refl refl
@@ -252,7 +258,8 @@ unfolding wake
 wake_now s on = ap (λ b. cond b (Some s) (wake_by s.received.coming s)) on
 
 -- numbers of 32 bits
-pub timely_behind : (k : ℕ) (events : List Event) → All (λ (event : Event). (leb event.at 4294967295 && is_input_in_range event.input) ≡ true) events → All (λ (event : Event). event.at ≤ 4294967295) (drop k events)
+pub timely_behind : (k : ℕ) (events : List Event) → All (λ (event : Event). (leb event.at 4294967295 && is_input_in_range event.input) ≡ true) events
+    → All (λ (event : Event). event.at ≤ 4294967295) (drop k events)
 timely_behind k events range i d below =
     let event = get_or events (k + i) d in
     let low : leb event.at 4294967295 ≡ true = (and_parts (leb event.at 4294967295) (is_input_in_range event.input) (range (k + i) d (omega (arith, length-drop k events)))).0 in
@@ -260,7 +267,8 @@ timely_behind k events range i d below =
     let same = ap (λ (event : Event). event.at) (get_or-drop k events i d) in
     omega (arith, there, same)
 
-wake_late_by : (s t : State) (event : Event) (events : List Event) (b : Bool) → event.at ≤ 4294967295 → is_enabled (brought_to event.at s) ≡ b → cond (is_enabled (brought_to event.at s)) (Some (brought_to event.at s)) (wake_by events (brought_to event.at s)) ≡ Some t
+wake_late_by : (s t : State) (event : Event) (events : List Event) (b : Bool) → event.at ≤ 4294967295 → is_enabled (brought_to event.at s) ≡ b
+    → cond (is_enabled (brought_to event.at s)) (Some (brought_to event.at s)) (wake_by events (brought_to event.at s)) ≡ Some t
     → (wake_by events (brought_to event.at s) ≡ Some t → t.polls ≤ max (max s.polls event.at) 4294967295) → t.polls ≤ max s.polls 4294967295
 wake_late_by s t event events true low on is rest =
     let same : Some (brought_to event.at s) ≡ Some t = sym (ap (λ b. cond b (Some (brought_to event.at s)) (wake_by events (brought_to event.at s))) on) ∙ is in
@@ -273,7 +281,9 @@ wake_late_by s t event events false low off is rest =
 
 wake_late : (s t : State) (events : List Event) → All (λ (event : Event). event.at ≤ 4294967295) events → wake_by events s ≡ Some t → t.polls ≤ max s.polls 4294967295
 wake_late s t [] timely is = absurd (cc)
-wake_late s t (event ∷ events) timely is = wake_late_by s t event events (is_enabled (brought_to event.at s)) (timely 0 event (omega arith)) refl is (λ next. wake_late (brought_to event.at s) t events (λ k d below. timely (suc k) d (omega arith)) next)
+wake_late s t (event ∷ events) timely is =
+    wake_late_by s t event events (is_enabled (brought_to event.at s)) (timely 0 event (omega arith)) refl is
+    (λ next. wake_late (brought_to event.at s) t events (λ k d below. timely (suc k) d (omega arith)) next)
 
 wake_polls_by : (s t : State) (b : Bool) → Timely s → is_enabled s ≡ b → cond (is_enabled s) (Some s) (wake_by s.received.coming s) ≡ Some t → t.polls ≤ max s.polls 4294967295
 wake_polls_by s t true timely on is =

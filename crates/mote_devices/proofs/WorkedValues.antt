@@ -1,7 +1,7 @@
 -- The definitions at worked values: which rule registers have, and a script of four inputs.
 use Rattle.std.proofs.Common.{◌≡◌, List, [], ◌∷◌, refl}
 use Rattle.std.specs.Prelude.{Some, slice_set}
-use Rattle.base_laws.specs.Lists.{zeros}
+use Rattle.base.specs.Lists.{zeros}
 use Rattle.input_script.specs.declared.input.Input.TheVariants.{Pin, Uart, Adc}
 use Rattle.input_script.specs.declared.input.Event.{Event}
 use Rattle.avr_isa.specs.IoTable.{register_at}

@@ -4,7 +4,7 @@ use Rattle.std.specs.List.{slice_get}
 use Rattle.std.specs.Option.{option_map}
 use Rattle.avr_isa.specs.IoTable.{can_read, can_write, register_at}
 use Rattle.avr_isa.specs.declared.io.IoRegister.{IoRegister}
-use Rattle.avr_isa.specs.declared.io.IoRegister.TheVariants.{Stored, Direction, Output, Pins, SerialStatus, SerialData, ConverterLow, ConverterHigh, ConverterControl, Timer}
+use Rattle.avr_isa.specs.declared.io.IoRegister.TheVariants.{Direction, Output, Pins, SerialStatus, SerialData, ConverterLow, ConverterHigh, ConverterControl, Timer}
 use Rattle.mote_devices.specs.declared.line.Line.{Line}
 use Rattle.mote_devices.specs.declared.line.Port.{Port}
 use Rattle.mote_devices.specs.declared.line.Port.TheVariants.{Uart0}
@@ -40,11 +40,8 @@ serial_status none = if none then 0x20 else 0xA0
 abbrev pub converter_status : ℕ → ℕ
 converter_status stored = bit_or (bit_and stored (255 - 0x40)) 0x10
 
--- the value of a register at data address a
+-- the value of a register at data address a: what is stored there, but for those that read something else
 abbrev pub value_of : IoRegister → State → ℕ → ℕ
-value_of Stored s a = stored s a
-value_of (Direction port) s a = stored s a
-value_of (Output port) s a = stored s a
 value_of (Pins port) s a = slice_index s.received.pins port
 value_of SerialStatus s a = serial_status (is_empty s.received.queue)
 value_of SerialData s a = first_byte s.received.queue
@@ -52,6 +49,7 @@ value_of ConverterLow s a = s.received.converter % 256
 value_of ConverterHigh s a = s.received.converter / 256 % 4
 value_of ConverterControl s a = converter_status (stored s a)
 value_of Timer s a = s.polls % 256
+value_of _ s a = stored s a
 
 -- the serial port's byte is taken by a read
 abbrev pub after_value : IoRegister → State → State

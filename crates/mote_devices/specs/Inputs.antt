@@ -1,6 +1,6 @@
 -- What the devices have received, and when an input of the script takes effect.
 use Rattle.std.specs.Prelude.{ℕ, ◌^◌, Bool, true, false, not, nat_le, nat_lt, if◌then◌else◌, List, [], ◌∷◌, ◌++◌, filter, fold, slice_set, bit_or}
-use Rattle.base_laws.specs.Lists.{zeros}
+use Rattle.base.specs.Lists.{zeros}
 use Rattle.input_script.specs.declared.input.Input.{Input}
 use Rattle.input_script.specs.declared.input.Input.TheVariants.{Pin, Uart, Adc, Int}
 use Rattle.input_script.specs.declared.input.Event.{Event}

@@ -3,7 +3,7 @@ use Rattle.std.specs.Prelude.{ℕ, ◌+◌, List, slice_index, slice_set}
 pub use Rattle.avr_isa.specs.IoTable.{rampz_address, mask_address}
 use Rattle.input_script.specs.declared.input.Event.{Event}
 use Rattle.mote_devices.specs.Inputs.{Received, at_poll, unreceived}
-use Rattle.base_laws.specs.Lists.{zeros}
+use Rattle.base.specs.Lists.{zeros}
 
 -- The bytes of the registers that store, by data address; what the devices have received; and how many
 -- polls were made.

@@ -51,7 +51,7 @@ impl Devices {
     ghost use Rattle.mote_devices.specs.Accesses.{is_core_register, Gave, device_answer, read as read_of, read_from, write as write_of, modify as modify_of, value_of, after_value, line_written, after_write, serial_status as serial_status_of};
 
     /// The devices at reset.
-    #[tactic(auto, unfolding(base_laws::specs::Lists::many))]
+    #[tactic(auto, unfolding(base::specs::Lists::many))]
     pub fn new(script: Script) -> Devices
         ensures value { result ≡ at_reset script.events }
     {

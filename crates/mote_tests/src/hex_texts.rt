@@ -1,7 +1,6 @@
 //! Texts of outside tools, each fault and its message, and a text that is written.
 
-use crate::support::printed;
-use hex_image::{Image, image_or_fault, one_fault, one_image, read, write};
+use hex_image::{HexError, Image, image_or_fault, one_fault, one_image, read, write};
 use std::alloc::Global;
 use std::process::Abort;
 use std::test::Fail;
@@ -21,7 +20,10 @@ fn refusal(rt: &impl Abort, alloc: Global, text: &[u8]) -> Result<String, Fail> 
     assert!(rt; text.len() <= 2_097_152);
     match read(alloc, text) {
         Ok(_) => Err("the text is read".into()),
-        Err(error) => printed(alloc, &error),
+        Err(HexError::Bad { line, fault }) => {
+            Ok(format!(in alloc; "bad hex line {line} {fault}")?)
+        }
+        Err(HexError::NoMemory) => Err("no memory".into()),
     }
 }
 

@@ -1,7 +1,7 @@
 //! Texts with line ends of each kind.
 
-use line_reader::{first_line, split_once};
 use std::test::Fail;
+use text_lines::{first_line, split_once};
 
 /// Texts, their first lines, and what stands behind: line ends of each kind, and texts that end without one.
 const TEXTS: [(&[u8], &[u8], &[u8]); 7] = [

@@ -1,5 +1,5 @@
 -- A page that is drafted may be made in each page of the pool that is free.
-use Rattle.std.proofs.Common.{◌≡◌, ℕ, suc, ◌+◌, ◌*◌, ◌/◌, List, arith, sym, ◌∙◌, subst}
+use Rattle.std.proofs.Common.{◌≡◌, ℕ, suc, ◌+◌, ◌*◌, ◌/◌, List, arith, sym, ◌∙◌}
 use Rattle.flash_words.specs.Pages.{page_words}
 use Rattle.flash_words.specs.declared.layout.Layout.{Layout}
 use Rattle.page_index.specs.Maps.{IsFree}
@@ -19,8 +19,7 @@ stops_of layout image words page t last free paged (StopsBehind.Leaves leaves) =
 stops_of layout image words page t last free paged (StopsBehind.Outside outside) = PageStops.Outside outside
 stops_of layout image words page t last free paged (StopsBehind.Known v entry) =
     PageStops.Known entry.page entry.index v entry.pool (λ same.
-    let P : ℕ → Type 0 = λ p. IsFree words p in
-    free_lists_nothing words entry.page entry.index _ v (subst P (sym same) free) entry.lists) entry.lists
+    free_lists_nothing words entry.page entry.index _ v (rw same free) entry.lists) entry.lists
 stops_of layout image words page t last free paged (StopsBehind.Full full) =
     PageStops.Full (omega (arith, size-templates image t (suc last), page_size-is image t (suc last)))
 

@@ -1,5 +1,5 @@
 -- A faithful pool: it is mapped, and that of a new flash is faithful.
-use Rattle.std.proofs.Common.{◌≡◌, ℕ, ◌≤◌, List, length, take, arith, sym, ap, ◌∙◌, inl, inr, subst}
+use Rattle.std.proofs.Common.{◌≡◌, ℕ, ◌≤◌, List, length, take, arith, sym, ap, ◌∙◌, inl, inr}
 use Rattle.flash_words.specs.Layouts.{IsRight, image_of}
 use Rattle.flash_words.specs.Memory.{kernel_first, loaded}
 use Rattle.flash_words.specs.declared.layout.Layout.{Layout}
@@ -38,6 +38,5 @@ new_flash_faithful layout image right long =
 -- and so are the words of that flash over the image that they hold
 pub new_flash_held : (layout : Layout) (image words : List ℕ) → IsRight layout → length image ≡ layout.image_words → words ≡ loaded image → IsFaithful layout (image_of layout words) words
 new_flash_held layout image words right long new =
-    let P : List ℕ → List ℕ → Type 0 = λ held all. IsFaithful layout held all in
     let same : image ≡ image_of layout words = sym (ap (image_of layout) new ∙ ap (λ n. take n (loaded image)) (sym long) ∙ loaded_image image) in
-    subst (λ (held : List ℕ). P held words) same (subst (P image) (sym new) (new_flash_faithful layout image right long))
+    rw (← same, new) (new_flash_faithful layout image right long)

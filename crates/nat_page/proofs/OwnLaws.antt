@@ -32,21 +32,22 @@ one_word : (pc first n : ℕ) (image : List ℕ) → template_by Native pc first
 unfolding template_by
 one_word pc first n image = refl
 
-template_is : (image : List ℕ) (pc first : ℕ) → IsOwn image pc first → template_at image pc ≡ Fixed first ∷ []
-template_is image pc first own =
-    ap₂ (λ s w. template_by s pc w (instruction_at image pc) (size_at image (pc + 1))) (shape_is image pc first own) own.own
-    ∙ one_word pc first (size_at image (pc + 1)) image
+module _ (image : List ℕ) (pc first : ℕ) (own : IsOwn image pc first) where
+  template_is : template_at image pc ≡ Fixed first ∷ []
+  template_is =
+      ap₂ (λ s w. template_by s pc w (instruction_at image pc) (size_at image (pc + 1))) (shape_is image pc first own) own.own
+      ∙ one_word pc first (size_at image (pc + 1)) image
 
-closing_is : (image : List ℕ) (pc first : ℕ) → IsOwn image pc first → closing_at image pc ≡ stub pc (pc + 1)
-closing_is image pc first own =
-    ap (λ s. if is_closed s then stub pc (next_of image pc) else []) (shape_is image pc first own)
-    ∙ ap (λ n. stub pc (pc + n)) (size_is image pc first own)
+  closing_is : closing_at image pc ≡ stub pc (pc + 1)
+  closing_is =
+      ap (λ s. if is_closed s then stub pc (next_of image pc) else []) (shape_is image pc first own)
+      ∙ ap (λ n. stub pc (pc + n)) (size_is image pc first own)
 
-ends_is : (image : List ℕ) (pc first : ℕ) → IsOwn image pc first → ends_at image pc ≡ false
-ends_is image pc first own = ap (λ s. never_returns s (instruction_at image pc)) (shape_is image pc first own)
+  ends_is : ends_at image pc ≡ false
+  ends_is = ap (λ s. never_returns s (instruction_at image pc)) (shape_is image pc first own)
 
-next_is : (image : List ℕ) (pc first : ℕ) → IsOwn image pc first → next_of image pc ≡ pc + 1
-next_is image pc first own = ap (λ n. pc + n) (size_is image pc first own)
+  next_is : next_of image pc ≡ pc + 1
+  next_is = ap (λ n. pc + n) (size_is image pc first own)
 
 pub own_code : (image : List ℕ) (pc first : ℕ) → code_of (own_instruction image pc first) ≡ Fixed first ∷ []
 own_code image pc first = one_word pc first (size_at image (pc + 1)) image
@@ -62,7 +63,8 @@ own_read image pc first own = record {
 }
 
 -- a draft in front of an instruction, however that was read
-pub drafting_again : (layout : Layout) (image words : List ℕ) (t : ℕ) (draft : Draft) (here here' : Instruction) → IsDrafting layout image words t draft here → here'.pc ≡ here.pc → IsRead image here' → IsDrafting layout image words t draft here'
+pub drafting_again : (layout : Layout) (image words : List ℕ) (t : ℕ) (draft : Draft) (here here' : Instruction) → IsDrafting layout image words t draft here → here'.pc ≡ here.pc → IsRead image here'
+    → IsDrafting layout image words t draft here'
 drafting_again layout image words t draft here here' drafting same read = record {
   last = drafting.last;
   begun = drafting.begun;
@@ -74,7 +76,8 @@ drafting_again layout image words t draft here here' drafting same read = record
 }
 
 -- the run goes on from one to the next
-pub own_on : (layout : Layout) (image words : List ℕ) (pc first others next : ℕ) → IsOwn image pc first → IsOwn image (pc + 1) next → (pc + 1) / page_words ≡ pc / page_words → HasNoEntry layout words (pc + 1) → others + 2 + size (stub (pc + 1) (pc + 1 + 1)) ≤ page_words
+pub own_on : (layout : Layout) (image words : List ℕ) (pc first others next : ℕ) → IsOwn image pc first → IsOwn image (pc + 1) next → (pc + 1) / page_words ≡ pc / page_words
+    → HasNoEntry layout words (pc + 1) → others + 2 + size (stub (pc + 1) (pc + 1 + 1)) ≤ page_words
     → GoesOn layout image words pc others (own_instruction image (pc + 1) next)
 own_on layout image words pc first others next own own' paged unknown fits =
     let template = ap size (template_is image (pc + 1) next own') in
@@ -90,9 +93,6 @@ own_on layout image words pc first others next own own' paged unknown fits =
     }
 
 -- its draft, with it
-pub own_added : (image : List ℕ) (pc first : ℕ) (old new : Draft) → new.entries.items ≡ old.entries.items ++ (256 * (pc % 128) + old.size) ∷ [] → new.code.items ≡ old.code.items ++ Fixed first ∷ [] → new.size ≡ old.size + 1 → Adds old new (own_instruction image pc first)
-own_added image pc first old new entries code sized = record {
-  entries = entries;
-  code = code ∙ ap (λ c. old.code.items ++ c) (sym (own_code image pc first));
-  size = sized;
-}
+pub own_added : (image : List ℕ) (pc first : ℕ) (old new : Draft) → new.entries.items ≡ old.entries.items ++ (256 * (pc % 128) + old.size) ∷ [] → new.code.items ≡ old.code.items ++ Fixed first ∷ []
+    → new.size ≡ old.size + 1 → Adds old new (own_instruction image pc first)
+own_added image pc first old new entries code sized = record { entries = entries; code = code ∙ ap (λ c. old.code.items ++ c) (sym (own_code image pc first)); size = sized }

@@ -36,23 +36,25 @@ append_none : (stubs : List ℕ) → stubs ++ [] ≡ stubs
 append_none [] = refl
 append_none (s ∷ stubs) = ap (λ rest. s ∷ rest) (append_none stubs)
 
-by_link : (test : Bool) (words : List ℕ) (picks : ℕ → ℕ → Bool) (page s t : ℕ) (patch patch' : Unlinked) (stubs : List ℕ) → is_picked words picks s t ≡ test → length words ≡ 65536 → page < 480 → s / page_words ≡ page → s % page_words + 1 < page_words
+by_link : (test : Bool) (words : List ℕ) (picks : ℕ → ℕ → Bool) (page s t : ℕ) (patch patch' : Unlinked) (stubs : List ℕ) → is_picked words picks s t ≡ test → length words ≡ 65536 → page < 480
+    → s / page_words ≡ page → s % page_words + 1 < page_words
     → (is_picked words picks s t ≡ false → patch' ≡ patch)
     → (is_picked words picks s t ≡ true → (patch'.words ≡ with_two_words patch.words (s % page_words) call_word bridge_entry) × (patch'.any ≡ true))
     → IsPatched words page patch stubs → IsPatched words page patch' (stubs ++ (if test then s ∷ [] else []))
 by_link false words picks page s t patch patch' stubs is whole low own room stays calls patched =
-    let P : Unlinked → Type 0 = λ p. IsPatched words page p stubs in
-    subst (IsPatched words page patch') (sym (append_none stubs)) (subst P (sym (stays is)) patched)
+    subst (IsPatched words page patch') (sym (append_none stubs)) (rw (stays is) patched)
 by_link true words picks page s t patch patch' stubs is whole low own room stays calls patched =
     let here = with_calls words stubs in
     let long = length-with_calls words stubs in
-    let two : page_of (with_two_words here s call_word bridge_entry) page ≡ with_two_words (page_of here page) (s % page_words) call_word bridge_entry = page_of_two here page s call_word bridge_entry (omega arith) own room in
+    let two : page_of (with_two_words here s call_word bridge_entry) page ≡ with_two_words (page_of here page) (s % page_words) call_word bridge_entry = page_of_two _ _ _ _ _ (omega arith) own room in
     record {
-      words_are = (calls is).0 ∙ ap (λ w. with_two_words w (s % page_words) call_word bridge_entry) patched.words_are ∙ sym two ∙ sym (ap (λ w. page_of w page) (with_calls-append words stubs (s ∷ [])));
+      words_are = (calls is).0 ∙ ap (λ w. with_two_words w (s % page_words) call_word bridge_entry) patched.words_are ∙ sym two
+          ∙ sym (ap (λ w. page_of w page) (with_calls-append words stubs (s ∷ [])));
       any = (calls is).1 ∙ sym (some_append stubs s);
     }
 
-pub patched_link : (words : List ℕ) (picks : ℕ → ℕ → Bool) (page s t : ℕ) (patch patch' : Unlinked) (stubs : List ℕ) → length words ≡ 65536 → page < 480 → s / page_words ≡ page → s % page_words + 1 < page_words
+pub patched_link : (words : List ℕ) (picks : ℕ → ℕ → Bool) (page s t : ℕ) (patch patch' : Unlinked) (stubs : List ℕ) → length words ≡ 65536 → page < 480 → s / page_words ≡ page
+    → s % page_words + 1 < page_words
     → (is_picked words picks s t ≡ false → patch' ≡ patch)
     → (is_picked words picks s t ≡ true → (patch'.words ≡ with_two_words patch.words (s % page_words) call_word bridge_entry) × (patch'.any ≡ true))
     → IsPatched words page patch stubs → IsPatched words page patch' (stubs ++ links_where words picks s (Link t ∷ []))
@@ -66,8 +68,7 @@ pub patched_next : (words : List ℕ) (test : ℕ → ℕ → Bool) (page from a
 patched_next words test page from at i pieces piece patch next reached patched =
     let so_far = links_where words test from (take i pieces) in
     let more : ℕ → List ℕ = λ b. links_where words test b (piece ∷ []) in
-    let all : links_where words test from (take (i + 1) pieces) ≡ so_far ++ more at =
-    ap (links_where words test from) next.front ∙ links_where-append words test from (take i pieces) (piece ∷ []) ∙ ap (λ b. so_far ++ more b) (sym reached) in
+    let all = ap (links_where words test from) next.front ∙ links_where-append words test from (take i pieces) (piece ∷ []) ∙ ap (λ b. so_far ++ more b) (sym reached) in
     subst (IsPatched words page patch) (sym all) patched
 
 pub patched_fixed : (words : List ℕ) (page : ℕ) (patch : Unlinked) (stubs : List ℕ) → IsPatched words page patch stubs → IsPatched words page patch (stubs ++ [])

@@ -17,21 +17,23 @@ held_used leads image words page t last short holds free =
     let begins : t < length image = holds.run.inside 0 (omega arith) in
     omega arith
 
--- a page holds one run at most
-pub same_run : (leads leads' : ℕ → ℕ → Type 0) (image words : List ℕ) (page t last t' last' : ℕ) → HoldsRun leads image words page t last → HoldsRun leads' image words page t' last' → (t ≡ t') × (last ≡ last')
-same_run leads leads' image words page t last t' last' holds holds' =
-    let count = count_held leads image words page t last holds in
-    let count' = count_held leads' image words page t' last' holds' in
-    (sym (address_held leads image words page t last 0 holds (omega arith)) ∙ address_held leads' image words page t' last' 0 holds' (omega arith), omega arith)
+module _ (leads leads' : ℕ → ℕ → Type 0) (image words : List ℕ) where
+  -- a page holds one run at most
+  pub same_run : (page t last t' last' : ℕ) → HoldsRun leads image words page t last → HoldsRun leads' image words page t' last' → (t ≡ t') × (last ≡ last')
+  same_run page t last t' last' holds holds' =
+      let count = count_held leads image words page t last holds in
+      let count' = count_held leads' image words page t' last' holds' in
+      (sym (address_held leads image words page t last 0 holds (omega arith)) ∙ address_held leads' image words page t' last' 0 holds' (omega arith), omega arith)
 
--- a page holds its run where its words stay and links may lead to no less
-pub holds_alike : (leads leads' : ℕ → ℕ → Type 0) (image words words' : List ℕ) (page t last : ℕ) → ((a v : ℕ) → leads a v → leads' a v) → SamePage words words' page → HoldsRun leads image words page t last → HoldsRun leads' image words' page t last
-holds_alike leads leads' image words words' page t last more same holds = record {
-  run = holds.run;
-  fits = holds.fits;
-  stands = stands_same leads leads' words words' (page_words * page) (page_pieces image t last) more (λ k below. sym (same.word k (omega (arith, holds.fits)))) holds.stands;
-  rest = λ k behind below. sym (same.word k below) ∙ holds.rest k behind below;
-}
+  -- a page holds its run where its words stay and links may lead to no less
+  pub holds_alike : (words' : List ℕ) (page t last : ℕ) → ((a v : ℕ) → leads a v → leads' a v) → SamePage words words' page → HoldsRun leads image words page t last
+      → HoldsRun leads' image words' page t last
+  holds_alike words' page t last more same holds = record {
+    run = holds.run;
+    fits = holds.fits;
+    stands = stands_same leads leads' words words' (page_words * page) (page_pieces image t last) more (λ k below. sym (same.word k (omega (arith, holds.fits)))) holds.stands;
+    rest = λ k behind below. sym (same.word k below) ∙ holds.rest k behind below;
+  }
 
-pub holds_more : (leads leads' : ℕ → ℕ → Type 0) (image words : List ℕ) (page t last : ℕ) → ((a v : ℕ) → leads a v → leads' a v) → HoldsRun leads image words page t last → HoldsRun leads' image words page t last
-holds_more leads leads' image words page t last more holds = holds_alike leads leads' image words words page t last more (record { word = λ k below. refl }) holds
+  pub holds_more : (page t last : ℕ) → ((a v : ℕ) → leads a v → leads' a v) → HoldsRun leads image words page t last → HoldsRun leads' image words page t last
+  holds_more page t last more holds = holds_alike words page t last more (record { word = λ k below. refl }) holds

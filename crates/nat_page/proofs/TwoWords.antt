@@ -1,5 +1,5 @@
 -- Two words of flash that are exchanged, and the page with them.
-use Rattle.std.proofs.Common.{◌≡◌, ℕ, ◌+◌, ◌-◌, ◌*◌, ◌<◌, ◌≤◌, List, length, arith, ap, sym, ◌∙◌, inl, inr, subst}
+use Rattle.std.proofs.Common.{◌≡◌, ℕ, ◌+◌, ◌-◌, ◌*◌, ◌<◌, ◌≤◌, List, length, arith, sym, ◌∙◌, inl, inr, subst}
 use Rattle.std.specs.Prelude.{◌≢◌, slice_index}
 use Rattle.std.proofs.lemmas.Bool.{cases_eq, cases_lt}
 use Rattle.std.proofs.lemmas.List.{length-set, get_or-set_same, get_or-set_other}
@@ -23,32 +23,28 @@ second_of_two words s first second below = get_or-set_same _ (s + 1) second 0 (o
 
 pub word_beside_two : (words : List ℕ) (s a first second : ℕ) → a ≢ s → a ≢ s + 1 → word_at (with_two_words words s first second) a ≡ word_at words a
 unfolding with_two_words
-word_beside_two words s a first second apart apart' =
-    get_or-set_other _ (s + 1) a second 0 apart' ∙ get_or-set_other words s a first 0 apart
+word_beside_two words s a first second apart apart' = get_or-set_other _ (s + 1) a second 0 apart' ∙ get_or-set_other words s a first 0 apart
 
 -- word k of the page with its two words, in flash with them
 word_of_page : (words : List ℕ) (page k j first second : ℕ) → page_words * page + page_words ≤ length words → k + 1 < page_words → j < page_words
     → slice_index (with_two_words (page_of words page) k first second) j
     ≡ word_at (with_two_words words (page_words * page + k) first second) (page_words * page + j)
 word_of_page words page k j first second inside below near =
-    let old = page_of words page in
-    let s = page_words * page + k in
     let long = length-page_of words page inside in
-    let Word : ℕ → Type 0 = λ b. slice_index (with_two_words old k first second) j ≡ word_at (with_two_words words s first second) b in
     elim (cases_eq j k) [
-      | inl same ↦ (
-          let here : s ≡ page_words * page + j = omega arith in
-          subst Word here (ap (slice_index (with_two_words old k first second)) same ∙ first_of_two old k first second (omega arith) ∙ sym (first_of_two words s first second (omega arith))))
+      | inl same ↦ rw same (first_of_two _ k first second (omega arith) ∙ sym (first_of_two words _ first second (omega arith)))
       | inr apart ↦ elim (cases_eq j (k + 1)) [
         | inl same ↦ (
-            subst Word (omega arith) (ap (slice_index (with_two_words old k first second)) same ∙ second_of_two old k first second (omega arith) ∙ sym (second_of_two words s first second (omega arith))))
+            let there : page_words * page + (k + 1) ≡ page_words * page + k + 1 = omega arith in
+            rw (same, there) (second_of_two _ k first second (omega arith) ∙ sym (second_of_two words _ first second (omega arith))))
         | inr apart' ↦
-            word_beside_two old k j first second apart apart' ∙ page_word words page j near ∙ sym (word_beside_two words s (page_words * page + j) first second (λ same. apart (omega arith)) (λ same. apart' (omega arith)))
+            word_beside_two _ k j first second apart apart' ∙ page_word words page j near ∙ sym (word_beside_two words _ _ first second (λ same. apart (omega arith)) (λ same. apart' (omega arith)))
       ]
     ]
 
 -- a page set to its words with these two is flash with these two
-pub two_in_page : (words : List ℕ) (page k first second : ℕ) → page_words * page + page_words ≤ length words → k + 1 < page_words → set_page words page (with_two_words (page_of words page) k first second) ≡ with_two_words words (page_words * page + k) first second
+pub two_in_page : (words : List ℕ) (page k first second : ℕ) → page_words * page + page_words ≤ length words → k + 1 < page_words
+    → set_page words page (with_two_words (page_of words page) k first second) ≡ with_two_words words (page_words * page + k) first second
 two_in_page words page k first second inside below =
     let new = with_two_words (page_of words page) k first second in
     let s = page_words * page + k in

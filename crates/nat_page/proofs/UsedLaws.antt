@@ -1,6 +1,6 @@
 -- How many pages of the pool are used: none in a new flash, one more where a page is made, as many where a
 -- link is resolved, and all where no page is free.
-use Rattle.std.proofs.Common.{◌≡◌, ℕ, zero, suc, ◌+◌, ◌<◌, ◌≤◌, ◌==◌, Bool, true, false, not, List, length, refl, sym, ap, ap₂, ◌∙◌, arith, subst, inl, inr}
+use Rattle.std.proofs.Common.{◌≡◌, ℕ, zero, suc, ◌+◌, ◌<◌, ◌≤◌, ◌==◌, Bool, true, false, not, List, length, refl, sym, ap, ap₂, ◌∙◌, arith, inl, inr, ⊎_elim}
 use Rattle.std.specs.Prelude.{◌≢◌, if◌then◌else◌}
 use Rattle.std.proofs.lemmas.Bool.{cases_eq}
 use Rattle.std.proofs.lemmas.Bool.Decides.{nat_tests}
@@ -56,11 +56,12 @@ used_among-most words first zero = omega arith
 used_among-most words first (suc n) = at_most (is_used words (first + n)) n (used_among words first n) (used_among-most words first n)
 
 -- pages that stay
-pub used_among-same : (words words' : List ℕ) (first n : ℕ) → ((page : ℕ) → first ≤ page → page < first + n → is_used words' page ≡ is_used words page) → used_among words' first n ≡ used_among words first n
+pub used_among-same : (words words' : List ℕ) (first n : ℕ) → ((page : ℕ) → first ≤ page → page < first + n → is_used words' page ≡ is_used words page)
+    → used_among words' first n ≡ used_among words first n
 unfolding used_among
 used_among-same words words' first zero same = refl
 used_among-same words words' first (suc n) same =
-    counted (is_used words' (first + n)) (is_used words (first + n)) (used_among words' first n) (used_among words first n) (same (first + n) (omega arith) (omega arith)) (used_among-same words words' first n (λ page low high. same page low (omega arith)))
+    counted _ _ _ _ (same (first + n) (omega arith) (omega arith)) (used_among-same words words' first n (λ page low high. same page low (omega arith)))
 
 -- one page more
 one_more : (used used' : Bool) (n m : ℕ) → used ≡ true → used' ≡ false → n ≡ m → (if used then 1 else 0) + n ≡ (if used' then 1 else 0) + m + 1
@@ -74,12 +75,13 @@ carried used used' n m head tail = counted used used' n (m + 1) head tail ∙ om
 before_last : (first n page : ℕ) → page < first + suc n → first + n ≢ page → page < first + n
 before_last first n page below apart = omega arith
 
-pub used_among-more : (words words' : List ℕ) (first n page : ℕ) → first ≤ page → page < first + n → is_used words page ≡ false → is_used words' page ≡ true → ((other : ℕ) → other ≢ page → is_used words' other ≡ is_used words other) → used_among words' first n ≡ used_among words first n + 1
+pub used_among-more : (words words' : List ℕ) (first n page : ℕ) → first ≤ page → page < first + n → is_used words page ≡ false → is_used words' page ≡ true
+    → ((other : ℕ) → other ≢ page → is_used words' other ≡ is_used words other) → used_among words' first n ≡ used_among words first n + 1
 unfolding used_among
 used_among-more words words' first zero page low high free used same = absurd (omega arith)
 used_among-more words words' first (suc n) page low high free used same = elim (cases_eq (first + n) page) [
-  | inl is ↦ one_more (is_used words' (first + n)) (is_used words (first + n)) (used_among words' first n) (used_among words first n) (ap (is_used words') is ∙ used) (ap (is_used words) is ∙ free) (used_among-same words words' first n (λ other low' high'. same other (λ is'. omega arith)))
-  | inr apart ↦ carried (is_used words' (first + n)) (is_used words (first + n)) (used_among words' first n) (used_among words first n) (same (first + n) apart) (used_among-more words words' first n page low (before_last first n page high apart) free used same)
+  | inl is ↦ one_more _ _ _ _ (ap (is_used words') is ∙ used) (ap (is_used words) is ∙ free) (used_among-same words words' first n (λ other low' high'. same other (λ is'. omega arith)))
+  | inr apart ↦ carried _ _ _ _ (same (first + n) apart) (used_among-more _ _ _ _ _ low (before_last first n page high apart) free used same)
 ]
 
 -- all of them, and none
@@ -87,7 +89,7 @@ used_among-all : (words : List ℕ) (first n : ℕ) → ((page : ℕ) → first 
 unfolding used_among
 used_among-all words first zero used = refl
 used_among-all words first (suc n) used =
-    counted (is_used words (first + n)) true (used_among words first n) n (used (first + n) (omega arith) (omega arith)) (used_among-all words first n (λ page low high. used page low (omega arith))) ∙ omega arith
+    counted _ _ _ _ (used (first + n) (omega arith) (omega arith)) (used_among-all words first n (λ page low high. used page low (omega arith))) ∙ omega arith
 
 used_among-none : (words : List ℕ) (first n : ℕ) → ((page : ℕ) → first ≤ page → page < first + n → is_used words page ≡ false) → used_among words first n ≡ 0
 unfolding used_among
@@ -109,30 +111,27 @@ pub all_used : (layout : Layout) (words : List ℕ) → IsMapped layout words �
 all_used layout words mapped full =
     used_among-all words layout.pool_first layout.pool_pages (λ page low high.
     let pool : IsPool layout page = record { from = low; to = high } in
-    elim (mapped.pages page pool) [
-      | inl free ↦ absurd (full page pool free)
-      | inr map ↦ map_used words page map
-    ])
+    ⊎_elim (λ free. absurd (full page pool free)) (map_used words page) (mapped.pages page pool))
 
 -- where a page is made one more is used
-pub used_made : (layout : Layout) (image old new : List ℕ) (page t place : ℕ) → IsRight layout → IsFaithful layout image old → IsPool layout page → IsFree old page → MakesPage layout image old new page t place → used_pages layout new ≡ used_pages layout old + 1
+pub used_made : (layout : Layout) (image old new : List ℕ) (page t place : ℕ) → IsRight layout → IsFaithful layout image old → IsPool layout page → IsFree old page
+    → MakesPage layout image old new page t place → used_pages layout new ≡ used_pages layout old + 1
 used_made layout image old new page t place right code pool free makes =
-    let leads : ℕ → ℕ → Type 0 = λ a v. IsEntry layout new a v in
     let short : length image ≤ most_image_words = omega (arith, code.image_length, right.image_fits) in
-    let holds = makes_holds layout leads image old new page t place right code pool makes in
-    used_among-more old new layout.pool_first layout.pool_pages page pool.from pool.to (free_unused old page free) (holds_run_used leads image new page t makes.prepared.last short holds) (λ other apart. same_used old new other (makes_other layout image old new page t place other right code pool makes apart))
+    let holds = makes_holds layout (IsEntry layout new) image old new page t place right code pool makes in
+    used_among-more _ _ _ _ _ pool.from pool.to (free_unused old page free) (holds_run_used _ _ _ _ _ _ short holds)
+    (λ other apart. same_used _ _ _ (makes_other _ _ _ _ _ _ _ _ right code pool makes apart))
 
 -- where each page keeps its run as many are used
 pub used_kept : (layout : Layout) (image words words' : List ℕ) (page t last : ℕ) → KeepsRun layout image words words' page t last → used_pages layout words' ≡ used_pages layout words
 used_kept layout image words words' page t last keeps =
     let leads : ℕ → ℕ → Type 0 = λ a v. IsEntry layout words a v in
     used_among-same words words' layout.pool_first layout.pool_pages (λ other low high. elim (cases_eq other page) [
-      | inl same ↦ (
-          let P : ℕ → Type 0 = λ p. is_used words' p ≡ is_used words p in
-          subst P (sym same) (holds_run_used leads image words' page t last keeps.short keeps.new ∙ sym (holds_run_used leads image words page t last keeps.short keeps.old)))
+      | inl same ↦ rw same (holds_run_used leads image words' page t last keeps.short keeps.new ∙ sym (holds_run_used leads image words page t last keeps.short keeps.old))
       | inr apart ↦ same_used words words' other (keeps.others other apart)
     ])
 
-pub used_relinked : (layout : Layout) (image words : List ℕ) (s t w w' : ℕ) → IsRight layout → IsFaithful layout image words → IsLinkIn layout image words s t → IsLink (IsEntry layout words) w w' t → used_pages layout (with_two_words words s w w') ≡ used_pages layout words
+pub used_relinked : (layout : Layout) (image words : List ℕ) (s t w w' : ℕ) → IsRight layout → IsFaithful layout image words → IsLinkIn layout image words s t → IsLink (IsEntry layout words) w w' t
+    → used_pages layout (with_two_words words s w w') ≡ used_pages layout words
 used_relinked layout image words s t w w' right code in_page link =
     used_kept layout image words (with_two_words words s w w') in_page.page in_page.first in_page.last (relinks layout image words s t w w' right code in_page link)

@@ -36,7 +36,7 @@ own_run leads image words page t last holds =
 pub own_page : (image words : List ℕ) (page t count : ℕ) → OwnRun Anywhere image words page → t ≡ address_of words page 0 → count ≡ entry_count words page → IsPage image t (count - 1)
 own_page image words page t count own first number =
     let whole : IsPage image (address_of words page 0) (entry_count words page - 1) = record { run = own.holds.run; fits = own.holds.fits } in
-    subst (λ b. IsPage image b (count - 1)) (sym first) (subst (λ n. IsPage image (address_of words page 0) (n - 1)) (sym number) whole)
+    rw first (rw number whole)
 
 pub is_found : (found : Option (ArrayVec Piece)) (P : Type 0) (Q : ArrayVec Piece → Type 0) → P → MatchOption found (¬ P) Q → ((pieces : ArrayVec Piece) → found ≡ Some pieces → ⊥) → ⊥
 is_found None P Q holds told none = told holds
@@ -55,14 +55,16 @@ by_none : (test : Bool) (words : List ℕ) (victim a : ℕ) (stubs : List ℕ) �
 by_none false words victim a stubs is none = none
 by_none true words victim a stubs is none = absurd (cc)
 
-pub none_into : (words : List ℕ) (victim a : ℕ) (pieces : List Piece) → ((x : ℕ) → a ≤ x → x + 3 ≤ a + size pieces → is_picked words (leads_into victim) x 0 ≡ false) → links_where words (leads_into victim) a pieces ≡ []
+pub none_into : (words : List ℕ) (victim a : ℕ) (pieces : List Piece) → ((x : ℕ) → a ≤ x → x + 3 ≤ a + size pieces → is_picked words (leads_into victim) x 0 ≡ false)
+    → links_where words (leads_into victim) a pieces ≡ []
 none_into words victim a [] none = refl
-none_into words victim a (Fixed word ∷ pieces) none =
-    none_into words victim (a + 1) pieces (λ x from to. none x (omega arith) (omega arith))
+none_into words victim a (Fixed word ∷ pieces) none = none_into words victim (a + 1) pieces (λ x from to. none x (omega arith) (omega arith))
 none_into words victim a (Link t ∷ pieces) none =
-    by_none (is_picked words (leads_into victim) a t) words victim a (links_where words (leads_into victim) (a + 3) pieces) (none a (omega arith) (omega arith)) (none_into words victim (a + 3) pieces (λ x from to. none x (omega arith) (omega arith)))
+    by_none (is_picked words (leads_into victim) a t) words victim a (links_where words (leads_into victim) (a + 3) pieces) (none a (omega arith) (omega arith))
+    (none_into words victim (a + 3) pieces (λ x from to. none x (omega arith) (omega arith)))
 
-pub no_stubs_into : (image words : List ℕ) (victim page : ℕ) → IsCodePage image words page → ((k : ℕ) → k < 127 → is_picked words (leads_into victim) (page_words * page + k) 0 ≡ false) → are_some (stubs_into image words victim page) ≡ false
+pub no_stubs_into : (image words : List ℕ) (victim page : ℕ) → IsCodePage image words page → ((k : ℕ) → k < 127 → is_picked words (leads_into victim) (page_words * page + k) 0 ≡ false)
+    → are_some (stubs_into image words victim page) ≡ false
 no_stubs_into image words victim page run none =
     let fits = (own_run Anywhere image words page run.first run.last run.holds).holds.fits in
     let pieces = page_pieces image (address_of words page 0) (entry_count words page - 1) in

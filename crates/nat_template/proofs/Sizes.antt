@@ -1,5 +1,5 @@
 -- How many words stubs and templates have.
-use Rattle.std.proofs.Common.{◌≡◌, ◌<◌, ◌≤◌, ◌+◌, ℕ, Bool, true, false, cond, List, [], ◌∷◌, refl, length, take, get_or, subst, arith}
+use Rattle.std.proofs.Common.{◌≡◌, ◌<◌, ◌≤◌, ◌+◌, ℕ, Bool, true, false, cond, List, [], ◌∷◌, refl, length, take, get_or, arith}
 use Rattle.std.specs.Prelude.{◌==◌, Option, Some}
 use Rattle.std.proofs.lemmas.List.Folds.{length-flat_map-take}
 use Rattle.avr_isa.specs.Crossing.{is_crossing}
@@ -10,7 +10,7 @@ use Rattle.avr_isa.specs.Instruction.{size_of}
 use Rattle.nat_template.specs.declared.piece.Piece.{Piece}
 use Rattle.nat_template.specs.declared.piece.Piece.TheVariants.{Fixed, Link}
 use Rattle.nat_template.specs.declared.shapes.TemplateShape.{TemplateShape}
-use Rattle.nat_template.specs.declared.shapes.TemplateShape.TheVariants.{Native, Mem, Jump, Branch, Skip, Call, Ret, Ind, SelfJump, Fault}
+use Rattle.nat_template.specs.declared.shapes.TemplateShape.TheVariants.{Native, Mem, Jump, Branch, Skip, Call, SelfJump}
 use Rattle.nat_template.specs.Shapes.{shape_of_form}
 use Rattle.nat_template.specs.Stubs.{stub, crossing_stub, words_of, words_of_piece}
 use Rattle.nat_template.specs.Templates.{template_by, target_of, inline, mem_or, mem_pieces, is_z}
@@ -56,7 +56,8 @@ unfolding second_word store_forms
 store_size q r pc = refl
 
 -- a call of MEM, or so many words in its place
-mem_bound : (called : Bool) (forms : List Form) (pc n : ℕ) → length (words_of (inline forms pc)) ≡ n → 1 ≤ n → n ≤ 39 → (1 ≤ length (words_of (mem_or called forms pc))) × (length (words_of (mem_or called forms pc)) ≤ 39)
+mem_bound : (called : Bool) (forms : List Form) (pc n : ℕ) → length (words_of (inline forms pc)) ≡ n → 1 ≤ n → n ≤ 39
+    → (1 ≤ length (words_of (mem_or called forms pc))) × (length (words_of (mem_or called forms pc)) ≤ 39)
 mem_bound true forms pc n is some most = (omega arith, omega arith)
 mem_bound false forms pc n is some most = (omega arith, omega arith)
 
@@ -69,24 +70,20 @@ mem_size pc (Some (forms.StoreOff Y q r)) = mem_bound (is_z r) (store_forms q r)
 mem_size pc _ = (omega arith, omega arith)
 
 -- a template has 1 to 39 words
-pub template_size : (shape : TemplateShape) (pc first : ℕ) (form : Option Form) (next_size : ℕ) → (1 ≤ length (words_of (template_by shape pc first form next_size))) × (length (words_of (template_by shape pc first form next_size)) ≤ 39)
+pub template_size : (shape : TemplateShape) (pc first : ℕ) (form : Option Form) (next_size : ℕ)
+    → (1 ≤ length (words_of (template_by shape pc first form next_size))) × (length (words_of (template_by shape pc first form next_size)) ≤ 39)
 unfolding template_by
-template_size Native pc first form next_size = (omega arith, omega arith)
 template_size Mem pc first form next_size = mem_size pc form
 template_size Jump pc first form next_size = let b = stub_bound pc (target_of pc form) in (omega arith, omega arith)
 template_size Branch pc first form next_size = let b = stub_bound pc (target_of pc form) in (omega arith, omega arith)
 template_size Skip pc first form next_size = let b = stub_bound pc (wrapping_sum pc (1 + next_size)) in (omega arith, omega arith)
 template_size Call pc first form next_size = let b = stub_bound pc (target_of pc form) in (omega arith, omega arith)
-template_size Ret pc first form next_size = (omega arith, omega arith)
-template_size Ind pc first form next_size = (omega arith, omega arith)
-template_size SelfJump pc first form next_size = (omega arith, omega arith)
-template_size Fault pc first form next_size = (omega arith, omega arith)
+template_size _ pc first form next_size = (omega arith, omega arith)
 
 -- the words of a piece have room behind those of the pieces before it
-pub words_room : (pieces : List Piece) (i : ℕ) (piece : Piece) → i < length pieces → get_or pieces i (Fixed 0) ≡ piece → length (words_of (take i pieces)) + length (words_of_piece piece) ≤ length (words_of pieces)
-words_room pieces i piece below here =
-    let P : Piece → Type 0 = λ p. length (words_of (take i pieces)) + length (words_of_piece p) ≤ length (words_of pieces) in
-    subst P here (length-flat_map-take words_of_piece pieces i (Fixed 0) below)
+pub words_room : (pieces : List Piece) (i : ℕ) (piece : Piece) → i < length pieces → get_or pieces i (Fixed 0) ≡ piece
+    → length (words_of (take i pieces)) + length (words_of_piece piece) ≤ length (words_of pieces)
+words_room pieces i piece below here = rw here at (length-flat_map-take words_of_piece pieces i (Fixed 0) below)
 
 jump_not_native : (own : Bool) → cond own SelfJump Jump ≡ Native → ⊥
 jump_not_native true is = cc

@@ -20,48 +20,57 @@ const Z0: u16 = Z_CELL;
 
 const Z1: u16 = Z_CELL + 1;
 
+/// STS and LDS, of each the first of its two words.
+const STS_R30: u16 = 0x93E0;
+
+const STS_R31: u16 = 0x93F0;
+
+const LDS_R30: u16 = 0x91E0;
+
+const LDS_R31: u16 = 0x91F0;
+
+const IN_R30_SREG: u16 = 0xB7EF;
+
+const OUT_SREG_R30: u16 = 0xBFEF;
+
+/// ST and LD with Z, of r0.
+const ST_Z: u16 = 0x8200;
+
+const LD_Z: u16 = 0x8000;
+
+const MOVW_R30_R28: u16 = 0x01FE;
+
+/// ADIW and SBIW with 0.
+const ADIW_R30: u16 = 0x9630;
+
+const SBIW_R30: u16 = 0x9730;
+
+const CPI_R31_0D: u16 = 0x30FD;
+
+const CPI_R31_11: u16 = 0x31F1;
+
+/// BRLO and BRSH over no word.
+const BRLO: u16 = 0xF000;
+
+const BRSH: u16 = 0xF400;
+
+/// RJMP over ten words: the trap, and the pc behind it.
+const RJMP_10: u16 = 0xC00A;
+
 /// Z and SREG into their cells.
-const SAVE: [u16; 7] = [
-    0x93E0, Z0, // STS Z0, r30
-    0x93F0, Z1, // STS Z1, r31
-    0xB7EF, // IN r30, SREG
-    0x93E0, SREG_CELL, // STS SREG cell, r30
-];
+const SAVE: [u16; 7] = [STS_R30, Z0, STS_R31, Z1, IN_R30_SREG, STS_R30, SREG_CELL];
 
-/// Z and SREG from their cells, and over the trap and the pc behind it.
-const BACK: [u16; 8] = [
-    0x91E0, SREG_CELL, // LDS r30, SREG cell
-    0xBFEF, // OUT SREG, r30
-    0x91E0, Z0, // LDS r30, Z0
-    0x91F0, Z1, // LDS r31, Z1
-    0xC00A, // RJMP over ten words
-];
-
-/// Z and SREG from their cells, and the kernel.
-const TRAP: [u16; 9] = [
-    0x91E0, SREG_CELL, // LDS r30, SREG cell
-    0xBFEF, // OUT SREG, r30
-    0x91E0, Z0, // LDS r30, Z0
-    0x91F0, Z1, // LDS r31, Z1
-    CALL, MEM,
-];
+/// Z and SREG from their cells.
+const RESTORE: [u16; 7] = [LDS_R30, SREG_CELL, OUT_SREG_R30, LDS_R30, Z0, LDS_R31, Z1];
 
 /// PUSH r, where r is none of Z's: these words use Z themselves, as those of the three below.
 #[tactic(auto, unfolding(avr_isa::specs::Encoding::first_word, avr_isa::specs::Encoding::second_word, crate::specs::Inline::push_forms))]
 pub(crate) fn push_words(r: Reg) -> ArrayVec<u16, 38>
     ensures words { result.items ≡ words_of_forms (push_forms r) }
 {
-    let store = 0x8200 + 16 * u16::from(r.get());
-    let pointer = [
-        0x91E0, SPL, // LDS r30, SPL
-        0x91F0, SPH, // LDS r31, SPH
-    ];
-    let access = [
-        store, // ST Z, r
-        0x9731, // SBIW r30, 1
-        0x93E0, SPL, // STS SPL, r30
-        0x93F0, SPH, // STS SPH, r31
-    ];
+    let store = ST_Z + 16 * u16::from(r.get());
+    let pointer = [LDS_R30, SPL, LDS_R31, SPH];
+    let access = [store, SBIW_R30 + 1, STS_R30, SPL, STS_R31, SPH];
     guarded(&pointer, &access)
 }
 
@@ -70,17 +79,9 @@ pub(crate) fn push_words(r: Reg) -> ArrayVec<u16, 38>
 pub(crate) fn pop_words(d: Reg) -> ArrayVec<u16, 38>
     ensures words { result.items ≡ words_of_forms (pop_forms d) }
 {
-    let load = 0x8000 + 16 * u16::from(d.get());
-    let pointer = [
-        0x91E0, SPL, // LDS r30, SPL
-        0x91F0, SPH, // LDS r31, SPH
-        0x9631, // ADIW r30, 1
-    ];
-    let access = [
-        load, // LD d, Z
-        0x93E0, SPL, // STS SPL, r30
-        0x93F0, SPH, // STS SPH, r31
-    ];
+    let load = LD_Z + 16 * u16::from(d.get());
+    let pointer = [LDS_R30, SPL, LDS_R31, SPH, ADIW_R30 + 1];
+    let access = [load, STS_R30, SPL, STS_R31, SPH];
     guarded(&pointer, &access)
 }
 
@@ -89,7 +90,7 @@ pub(crate) fn pop_words(d: Reg) -> ArrayVec<u16, 38>
 pub(crate) fn load_words(d: Reg, q: Six) -> ArrayVec<u16, 38>
     ensures words { result.items ≡ words_of_forms (load_forms d q) }
 {
-    let load = 0x8000 + 16 * u16::from(d.get()); // LD d, Z
+    let load = LD_Z + 16 * u16::from(d.get());
     guarded(&behind_y(q), &[load])
 }
 
@@ -98,7 +99,7 @@ pub(crate) fn load_words(d: Reg, q: Six) -> ArrayVec<u16, 38>
 pub(crate) fn store_words(q: Six, r: Reg) -> ArrayVec<u16, 38>
     ensures words { result.items ≡ words_of_forms (store_forms q r) }
 {
-    let store = 0x8200 + 16 * u16::from(r.get()); // ST Z, r
+    let store = ST_Z + 16 * u16::from(r.get());
     guarded(&behind_y(q), &[store])
 }
 
@@ -108,11 +109,7 @@ fn behind_y(q: Six) -> [u16; 2]
     ensures words { result ≡ words_of_forms (Form.Movw 30 28 ∷ Form.Word WordOp.Adiw 30 q ∷ []) }
 {
     let q = u16::from(q.get());
-    let add = 0x9630 + 64 * (q / 16) + q % 16;
-    [
-        0x01FE, // MOVW r30, r28
-        add, // ADIW r30, q
-    ]
+    [MOVW_R30_R28, ADIW_R30 + 64 * (q / 16) + q % 16]
 }
 
 /// The words that bring the address into Z, and behind the guard those of the access, between what all
@@ -122,19 +119,22 @@ fn guarded(pointer: &[u16], access: &[u16]) -> ArrayVec<u16, 38>
     requires room { length pointer.now + length access.now ≤ 10 }
     ensures words { result.items ≡ words_of_forms save ++ pointer.now ++ words_of_forms (guard_of (10 + length access.now) (8 + length access.now)) ++ access.now ++ words_of_forms (back ++ trap) }
 {
-    let over = 8 + access.len() as u16; // the access, and BACK
+    let over = 8 + access.len() as u16; // the access, RESTORE and RJMP
+    // Both branches lead to the trap.
     let guard = [
-        0x30FD, // CPI r31, 0x0D
-        0xF000 + 8 * (2 + over), // BRLO to the trap
-        0x31F1, // CPI r31, 0x11
-        0xF400 + 8 * over, // BRSH to the trap
+        CPI_R31_0D,
+        BRLO + 8 * (2 + over),
+        CPI_R31_11,
+        BRSH + 8 * over,
     ];
     let mut all = ArrayVec::new();
     all.try_extend_from_slice(&SAVE).unwrap();
     all.try_extend_from_slice(pointer).unwrap();
     all.try_extend_from_slice(&guard).unwrap();
     all.try_extend_from_slice(access).unwrap();
-    all.try_extend_from_slice(&BACK).unwrap();
-    all.try_extend_from_slice(&TRAP).unwrap();
+    all.try_extend_from_slice(&RESTORE).unwrap();
+    all.push(RJMP_10);
+    all.try_extend_from_slice(&RESTORE).unwrap();
+    all.try_extend_from_slice(&[CALL, MEM]).unwrap();
     all
 }

@@ -12,23 +12,37 @@ use avr_isa::is_crossing;
 use flash_words::JMP;
 use sram_layout::{COUNT_CELL, R24_CELL, SREG_CELL};
 
+/// STS and LDS, of each the first of its two words.
+const STS_R24: u16 = 0x9380;
+
+const LDS_R24: u16 = 0x9180;
+
+const IN_R24_SREG: u16 = 0xB78F;
+
+const OUT_SREG_R24: u16 = 0xBF8F;
+
+const DEC_R24: u16 = 0x958A;
+
+/// BREQ over the next eight words.
+const BREQ_8: u16 = 0xF041;
+
 /// One is taken off COUNT, with r24 and SREG kept in their cells; a branch passes over what follows at 0.
 const COUNT_DOWN: [Piece; 16] = [
-    Piece::Fixed(0x9380), // STS R24, r24
+    Piece::Fixed(STS_R24),
     Piece::Fixed(R24_CELL),
-    Piece::Fixed(0xB78F), // IN r24, SREG
-    Piece::Fixed(0x9380), // STS SREG cell, r24
+    Piece::Fixed(IN_R24_SREG),
+    Piece::Fixed(STS_R24),
     Piece::Fixed(SREG_CELL),
-    Piece::Fixed(0x9180), // LDS r24, COUNT
+    Piece::Fixed(LDS_R24),
     Piece::Fixed(COUNT_CELL),
-    Piece::Fixed(0x958A), // DEC r24
-    Piece::Fixed(0x9380), // STS COUNT, r24
+    Piece::Fixed(DEC_R24),
+    Piece::Fixed(STS_R24),
     Piece::Fixed(COUNT_CELL),
-    Piece::Fixed(0xF041), // BREQ over the next eight words
-    Piece::Fixed(0x9180), // LDS r24, SREG cell
+    Piece::Fixed(BREQ_8),
+    Piece::Fixed(LDS_R24),
     Piece::Fixed(SREG_CELL),
-    Piece::Fixed(0xBF8F), // OUT SREG, r24
-    Piece::Fixed(0x9180), // LDS r24, R24
+    Piece::Fixed(OUT_SREG_R24),
+    Piece::Fixed(LDS_R24),
     Piece::Fixed(R24_CELL),
 ];
 

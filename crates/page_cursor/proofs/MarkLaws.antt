@@ -1,5 +1,5 @@
 -- What is noted of places, and what begins there.
-use Rattle.std.proofs.Common.{◌≡◌, ℕ, ◌+◌, ◌-◌, ◌/◌, ◌%◌, ◌<◌, ◌≤◌, Bool, false, List, length, set, get_or-set_other, arith, refl, subst, sym, ap, ◌∙◌, inl, inr}
+use Rattle.std.proofs.Common.{◌≡◌, ℕ, ◌+◌, ◌-◌, ◌/◌, ◌%◌, ◌<◌, ◌≤◌, Bool, false, List, length, set, get_or-set_other, arith, refl, subst, sym, ap, ◌∙◌, inl, inr, ⊎_elim}
 use Rattle.std.specs.Prelude.{◌≢◌, ◌↔◌, ◌⊎◌, Option, Some, None, IfSome, slice_index_or}
 use Rattle.std.proofs.lemmas.Grind.{get_or-set_at}
 use Rattle.std.proofs.lemmas.Bool.{cases_eq, true≢false}
@@ -11,65 +11,60 @@ use Rattle.page_index.proofs.EntryLaws.{page_of_place}
 use Rattle.page_cursor.specs.Marks.{Marking, mark_at, no_entry, with_address, IsQuietAt, IsUnknownAt, StaysAt, IsNoted, IsFresh, IsQuietIn, KeepsOthers, IsListed, IsCovered}
 use Rattle.page_cursor.specs.Cursors.{AreMarks, AreNoted, HaveSameBeside}
 
--- nothing is noted
-pub fresh_marks : (layout : Layout) (words : List ℕ) (m : Marking) → IsFresh m → AreMarks layout words m
-fresh_marks layout words m fresh = record {
-  quiet = λ t place within is entry. true≢false (sym is ∙ (fresh place within).0);
-  low = λ place within is. absurd (true≢false (sym is ∙ (fresh place within).0));
-  noted = λ t place within noted. absurd (omega (arith, (fresh place within).1, noted.0, noted.1));
-}
+module _ (layout : Layout) (words : List ℕ) where
+  -- nothing is noted
+  pub fresh_marks : (m : Marking) → IsFresh m → AreMarks layout words m
+  fresh_marks m fresh = record {
+    quiet = λ t place within is entry. true≢false (sym is ∙ (fresh place within).0);
+    low = λ place within is. absurd (true≢false (sym is ∙ (fresh place within).0));
+    noted = λ t place within noted. absurd (omega (arith, (fresh place within).1, noted.0, noted.1));
+  }
 
--- all stays, or all is forgotten
-pub kept_or_fresh : (layout : Layout) (words : List ℕ) (old new : Marking) → (new ≡ old) ⊎ IsFresh new → AreMarks layout words old → AreMarks layout words new
-kept_or_fresh layout words old new either marks = elim either [
-  | inl same ↦ subst (AreMarks layout words) (sym same) marks
-  | inr fresh ↦ fresh_marks layout words new fresh
-]
+  -- all stays, or all is forgotten
+  pub kept_or_fresh : (old new : Marking) → (new ≡ old) ⊎ IsFresh new → AreMarks layout words old → AreMarks layout words new
+  kept_or_fresh old new either marks = ⊎_elim (λ same. subst (AreMarks layout words) (sym same) marks) (fresh_marks new) either
 
--- what is noted of one page is right, and of the others as it was
-marks_by_page : (layout : Layout) (words : List ℕ) (old new : Marking) (page : ℕ) → page < 480 → KeepsOthers old new page → AreMarks layout words old
-    → ((t place : ℕ) → place / 128 ≡ page → IsQuietAt new place → ¬ IsEntry layout words t place) → ((t place : ℕ) → place / 128 ≡ page → IsNoted new place t → IsEntry layout words t place)
-    → AreMarks layout words new
-marks_by_page layout words old new page below keeps marks quiet noted = record {
-  quiet = λ t place within is entry. elim (cases_eq (place / 128) page) [
-    | inl same ↦ quiet t place same is entry
-    | inr apart ↦ marks.quiet t place within (sym (keeps place apart).0 ∙ is) entry
-  ];
-  low = λ place within is. elim (cases_eq (place / 128) page) [
-    | inl same ↦ omega (arith, same, below)
-    | inr apart ↦ marks.low place within (sym (keeps place apart).0 ∙ is)
-  ];
-  noted = λ t place within is. elim (cases_eq (place / 128) page) [
-    | inl same ↦ noted t place same is
-    | inr apart ↦ marks.noted t place within (sym (keeps place apart).1 ∙ is.0, is.1)
-  ];
-}
+  -- what is noted of one page is right, and of the others as it was
+  marks_by_page : (old new : Marking) (page : ℕ) → page < 480 → KeepsOthers old new page → AreMarks layout words old
+      → ((t place : ℕ) → place / 128 ≡ page → IsQuietAt new place → ¬ IsEntry layout words t place) → ((t place : ℕ) → place / 128 ≡ page → IsNoted new place t → IsEntry layout words t place)
+      → AreMarks layout words new
+  marks_by_page old new page below keeps marks quiet noted = record {
+    quiet = λ t place within is entry. elim (cases_eq (place / 128) page) [
+      | inl same ↦ quiet t place same is entry
+      | inr apart ↦ marks.quiet t place within (sym (keeps place apart).0 ∙ is) entry
+    ];
+    low = λ place within is. ⊎_elim (λ same. omega (arith, same, below)) (λ apart. marks.low place within (sym (keeps place apart).0 ∙ is)) (cases_eq (place / 128) page);
+    noted = λ t place within is. elim (cases_eq (place / 128) page) [
+      | inl same ↦ noted t place same is
+      | inr apart ↦ marks.noted t place within (sym (keeps place apart).1 ∙ is.0, is.1)
+    ];
+  }
 
--- nothing is noted of a page whose entries may be others
-pub marks_beside : (layout : Layout) (words now : List ℕ) (old new : Marking) (page : ℕ) → HaveSameBeside layout words now page
-    → ((place : ℕ) → place / 128 ≡ page → IsUnknownAt new.quiet new.marks place) → KeepsOthers old new page → AreMarks layout words old → AreMarks layout now new
-marks_beside layout words now old new page same forgotten keeps marks = record {
-  quiet = λ t place within is entry. elim (cases_eq (place / 128) page) [
-    | inl here ↦ true≢false (sym is ∙ (forgotten place here).0)
-    | inr apart ↦ marks.quiet t place within (sym (keeps place apart).0 ∙ is) ((same t place apart).1 entry)
-  ];
-  low = λ place within is. elim (cases_eq (place / 128) page) [
-    | inl here ↦ absurd (true≢false (sym is ∙ (forgotten place here).0))
-    | inr apart ↦ marks.low place within (sym (keeps place apart).0 ∙ is)
-  ];
-  noted = λ t place within is. elim (cases_eq (place / 128) page) [
-    | inl here ↦ absurd (omega (arith, is.0, is.1, (forgotten place here).1))
-    | inr apart ↦ (same t place apart).0 (marks.noted t place within (sym (keeps place apart).1 ∙ is.0, is.1))
-  ];
-}
+  -- nothing is noted of a page whose entries may be others
+  pub marks_beside : (now : List ℕ) (old new : Marking) (page : ℕ) → HaveSameBeside layout words now page → ((place : ℕ) → place / 128 ≡ page → IsUnknownAt new.quiet new.marks place)
+      → KeepsOthers old new page → AreMarks layout words old → AreMarks layout now new
+  marks_beside now old new page same forgotten keeps marks = record {
+    quiet = λ t place within is entry. elim (cases_eq (place / 128) page) [
+      | inl here ↦ true≢false (sym is ∙ (forgotten place here).0)
+      | inr apart ↦ marks.quiet t place within (sym (keeps place apart).0 ∙ is) ((same t place apart).1 entry)
+    ];
+    low = λ place within is. elim (cases_eq (place / 128) page) [
+      | inl here ↦ absurd (true≢false (sym is ∙ (forgotten place here).0))
+      | inr apart ↦ marks.low place within (sym (keeps place apart).0 ∙ is)
+    ];
+    noted = λ t place within is. elim (cases_eq (place / 128) page) [
+      | inl here ↦ absurd (omega (arith, is.0, is.1, (forgotten place here).1))
+      | inr apart ↦ (same t place apart).0 (marks.noted t place within (sym (keeps place apart).1 ∙ is.0, is.1))
+    ];
+  }
 
--- where the entries are the same, so is what is known of them
-pub marks_same : (layout : Layout) (words now : List ℕ) (m : Marking) → ((t place : ℕ) → (IsEntry layout words t place ↔ IsEntry layout now t place)) → AreMarks layout words m → AreMarks layout now m
-marks_same layout words now m same marks = record {
-  quiet = λ t place within is entry. marks.quiet t place within is ((same t place).1 entry);
-  low = marks.low;
-  noted = λ t place within is. (same t place).0 (marks.noted t place within is);
-}
+  -- where the entries are the same, so is what is known of them
+  pub marks_same : (now : List ℕ) (m : Marking) → ((t place : ℕ) → (IsEntry layout words t place ↔ IsEntry layout now t place)) → AreMarks layout words m → AreMarks layout now m
+  marks_same now m same marks = record {
+    quiet = λ t place within is entry. marks.quiet t place within is ((same t place).1 entry);
+    low = marks.low;
+    noted = λ t place within is. (same t place).0 (marks.noted t place within is);
+  }
 
 -- where no entry is known, none is noted
 not_noted : (m : Marking) (t place : ℕ) → mark_at m place ≡ no_entry → IsNoted m place t → ⊥
@@ -83,23 +78,21 @@ marks_quiet layout words old new page below keeps quiet none marks =
 
 -- an entry at a place is of the place's page
 pub own_lists : (layout : Layout) (words : List ℕ) (page t place : ℕ) → IsMapped layout words → place / 128 ≡ page → (entry : IsEntry layout words t place) → Lists words page entry.index t place
-own_lists layout words page t place mapped same entry =
-    let P : ℕ → Type 0 = λ p. Lists words p entry.index t place in
-    subst P (page_of_place layout words t place mapped entry ∙ same) entry.lists
+own_lists layout words page t place mapped same entry = rw (page_of_place layout words t place mapped entry ∙ same) at entry.lists
 
--- an entry of a page that was read is noted
-pub noted_there : (layout : Layout) (words : List ℕ) (m : Marking) (page t place : ℕ) → IsMapped layout words → AreNoted words m page (entry_count words page) → place / 128 ≡ page → IsEntry layout words t place → IsNoted m place t
-noted_there layout words m page t place mapped read same entry =
-    let lists = own_lists layout words page t place mapped same entry in
-    let P : ℕ → ℕ → Type 0 = λ v a. IsNoted m v a in
-    subst (λ (a : ℕ). P place a) (sym lists.address) (subst (λ (v : ℕ). P v (address_of words page entry.index)) (sym lists.place) (read.there entry.index lists.listed))
+module _ (layout : Layout) (words : List ℕ) (m : Marking) (page t place : ℕ) (mapped : IsMapped layout words) (read : AreNoted words m page (entry_count words page)) (same : place / 128 ≡ page)
+    (entry : IsEntry layout words t place) where
+  -- an entry of a page that was read is noted
+  pub noted_there : IsNoted m place t
+  noted_there =
+      let lists = own_lists layout words page t place mapped same entry in
+      rw lists.address (rw lists.place (read.there entry.index lists.listed))
 
--- it isn't noted that none begins there
-begins_there : (layout : Layout) (words : List ℕ) (m : Marking) (page t place : ℕ) → IsMapped layout words → AreNoted words m page (entry_count words page) → place / 128 ≡ page
-    → IsEntry layout words t place → ¬ IsQuietAt m place
-begins_there layout words m page t place mapped read same entry quiet =
-    let lists = own_lists layout words page t place mapped same entry in
-    read.begins entry.index lists.listed (subst (λ (v : ℕ). IsQuietAt m v) lists.place quiet)
+  -- it isn't noted that none begins there
+  begins_there : ¬ IsQuietAt m place
+  begins_there quiet =
+      let lists = own_lists layout words page t place mapped same entry in
+      read.begins entry.index lists.listed (rw lists.place at quiet)
 
 -- a page that was read
 pub marks_read : (layout : Layout) (words : List ℕ) (old new : Marking) (page : ℕ) → page < 480 → IsMapped layout words → IsPool layout page → IsMap words page → KeepsOthers old new page
@@ -110,8 +103,8 @@ marks_read layout words old new page below mapped pool map keeps read marks =
     (λ t place same noted.
     let at = read.noted t place same noted in
     let there = lists_entry words page at.index map at.below in
-    let P : ℕ → ℕ → Type 0 = λ a v. Lists words page at.index a v in
-    record { page = page; index = at.index; pool = pool; lists = subst (λ (a : ℕ). P a place) (sym at.address) (subst (λ (v : ℕ). P (address_of words page at.index) v) (sym at.begins) there) })
+    let placed = subst (λ (v : ℕ). Lists words page at.index (address_of words page at.index) v) (sym at.begins) there in
+    record { page = page; index = at.index; pool = pool; lists = subst (λ (a : ℕ). Lists words page at.index a place) (sym at.address) placed })
 
 -- no entry of the page is noted yet
 pub noted_none : (words : List ℕ) (m : Marking) (page : ℕ) → IsQuietIn m page → AreNoted words m page 0
@@ -127,18 +120,18 @@ record IsNear (words : List ℕ) (page i : ℕ) : Type 0 where
   within : place_of words page i < 65536
   address : address_of words page i < 24576
 
-near : (words : List ℕ) (page i : ℕ) → page < 480 → IsMap words page → i < entry_count words page → IsNear words page i
-near words page i below map listed =
-    let place = map.inside i listed in
-    let offset = map.offset i listed in
-    let original = map.original in
-    record { inside = omega arith; within = omega arith; address = omega arith }
+module _ (words : List ℕ) (page i : ℕ) (below : page < 480) (map : IsMap words page) (listed : i < entry_count words page) where
+  near : IsNear words page i
+  near =
+      let place = map.inside i listed in
+      let offset = map.offset i listed in
+      record { inside = omega arith; within = omega arith; address = omega arith }
 
-pub near_address : (words : List ℕ) (page i : ℕ) → page < 480 → IsMap words page → i < entry_count words page → address_of words page i < 24576
-near_address words page i below map listed = (near words page i below map listed).address
+  pub near_address : address_of words page i < 24576
+  near_address = (near).address
 
-pub near_page : (words : List ℕ) (page i : ℕ) → page < 480 → IsMap words page → i < entry_count words page → place_of words page i / 128 ≡ page
-near_page words page i below map listed = (near words page i below map listed).inside
+  pub near_page : place_of words page i / 128 ≡ page
+  near_page = (near).inside
 
 -- the marking where one more entry is noted
 abbrev pub with_entry : List ℕ → Marking → ℕ → ℕ → Marking
@@ -181,14 +174,13 @@ noted_next words m new page i below map listed size is read =
             ((stays_apart m place mark (place_of words page j) (apart j (lower j under other))).1 ∙ before.0, before.1))
       ];
       begins = λ j under quiet. elim (cases_eq j i) [
-        | inl same ↦ (
-            let P : ℕ → Type 0 = λ k. IsQuietAt (with_entry words m page i) (place_of words page k) in
-            true≢false (sym (subst P same quiet) ∙ begun))
+        | inl same ↦ true≢false (sym (rw same at quiet) ∙ begun)
         | inr other ↦ read.begins j (lower j under other) (sym (stays_apart m place mark (place_of words page j) (apart j (lower j under other))).0 ∙ quiet)
       ];
     })
 
-pub others_next : (words : List ℕ) (old m new : Marking) (page i : ℕ) → page < 480 → IsMap words page → i < entry_count words page → new ≡ with_entry words m page i → KeepsOthers old m page → KeepsOthers old new page
+pub others_next : (words : List ℕ) (old m new : Marking) (page i : ℕ) → page < 480 → IsMap words page → i < entry_count words page → new ≡ with_entry words m page i → KeepsOthers old m page
+    → KeepsOthers old new page
 others_next words old m new page i below map listed is keeps =
     let at = near words page i below map listed in
     subst (λ n. KeepsOthers old n page) (sym is) (λ place apart.
@@ -220,14 +212,15 @@ pub others_both : (old mid new : Marking) (page : ℕ) → KeepsOthers old mid p
 others_both old mid new page first second = λ place apart. ((second place apart).0 ∙ (first place apart).0, (second place apart).1 ∙ (first place apart).1)
 
 -- what is noted at a place begins there
-pub found_noted : (layout : Layout) (words : List ℕ) (m : Marking) (place : ℕ) (found : Option ℕ) → place < 65536 → AreMarks layout words m → IfSome found (λ t. IsNoted m place t) → IfSome found (λ t. IsEntry layout words t place)
+pub found_noted : (layout : Layout) (words : List ℕ) (m : Marking) (place : ℕ) (found : Option ℕ) → place < 65536 → AreMarks layout words m → IfSome found (IsNoted m place)
+    → IfSome found (λ t. IsEntry layout words t place)
 found_noted layout words m place None within marks noted = tt
 found_noted layout words m place (Some t) within marks noted = marks.noted t place within noted
 
 -- the marking, by the place and the address that were read
-pub with_entry_is : (words : List ℕ) (m new : Marking) (page i place address : ℕ) → new ≡ with_address m place address → place ≡ place_of words page i → address ≡ address_of words page i → new ≡ with_entry words m page i
-with_entry_is words m new page i place address is at of =
-    is ∙ ap (λ v. with_address m v address) at ∙ ap (with_address m (place_of words page i)) of
+pub with_entry_is : (words : List ℕ) (m new : Marking) (page i place address : ℕ) → new ≡ with_address m place address → place ≡ place_of words page i → address ≡ address_of words page i
+    → new ≡ with_entry words m page i
+with_entry_is words m new page i place address is at of = is ∙ ap (λ v. with_address m v address) at ∙ ap (with_address m (place_of words page i)) of
 
 -- where no page more can be listed
 pub covered_full : (m : Marking) → m.room ≡ 0 → IsCovered m
@@ -277,14 +270,13 @@ covered_less m quiet marks page none others covered = record {
 -- an entry is noted at a place of which something is known
 pub covered_address : (m : Marking) (place t : ℕ) → ¬ IsUnknownAt m.quiet m.marks place → IsCovered m → IsCovered (with_address m place t)
 covered_address m place t known covered =
-    let P : ℕ → Type 0 = λ v. IsUnknownAt m.quiet m.marks v in
     record {
       room = covered.room;
       pages = λ more other within. elim (covered.pages more other within) [
         | inl listed ↦ inl listed
         | inr unknown ↦ (
             let new = with_address m place t in
-            let apart : other ≢ place = λ same. known (subst P same unknown) in
+            let apart : other ≢ place = λ same. known (rw same at unknown) in
             inr (unknown_still new.quiet new.marks m.quiet m.marks other (stays_apart m place t other apart) unknown))
       ];
     }
@@ -310,7 +302,4 @@ left_next pages quiet marks old_quiet old_marks i cleared others left = record {
 
 -- none is left
 pub left_none : (pages : List ℕ) (quiet : List Bool) (marks : List ℕ) (i place : ℕ) → 512 ≤ i → AreLeft pages quiet marks i → place < 65536 → IsUnknownAt quiet marks place
-left_none pages quiet marks i place all left within = elim (left.left place within) [
-  | inl at ↦ absurd (omega (arith, all, at.behind, at.below))
-  | inr unknown ↦ unknown
-]
+left_none pages quiet marks i place all left within = ⊎_elim (λ at. absurd (omega (arith, all, at.behind, at.below))) (λ unknown. unknown) (left.left place within)

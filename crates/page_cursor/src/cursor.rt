@@ -44,7 +44,7 @@ impl Cursor {
         cursor
     }
 
-    /// The same on the heap, since it is large. Not inlined, so that it is made there alone.
+    /// A new cursor on the heap, since it is large, with room for drafts. Not inlined, so that it is made there alone.
     #[inline(never)]
     pub fn boxed(alloc: Global) -> Result<Box<Cursor>, AllocError>
         ensures right { IfOk result (λ cursor. IsCursorAnywhere cursor.value) }
@@ -121,7 +121,7 @@ impl Cursor {
         self.find(flash, layout, place)
     }
 
-    /// The same at a place of which nothing is known: its page is read.
+    /// What [`Cursor::origin`] gives at a place of which nothing is known: its page is read.
     #[inline(never)]
     fn find(&mut self, flash: &Flash, layout: &Layout, place: u16) -> Option<u16>
         requires right { IsRight layout.now }

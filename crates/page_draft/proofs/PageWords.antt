@@ -22,15 +22,16 @@ map_alike f g (x ∷ xs) same = ap₂ (λ y ys. y ∷ ys) (same x) (map_alike f 
 entries_raised : (image : List ℕ) (t n : ℕ) → map (λ entry. entry + (2 + n)) (starts image t n) ≡ map_words image t n
 unfolding starts map_words
 entries_raised image t n =
-    map-map (λ entry. entry + (2 + n)) (λ i. 256 * (address image t i % page_words) + size (templates image t i)) (range_with_len 0 n) ∙ map_alike _ (λ i. map_word image t n i) (range_with_len 0 n) (λ i. omega arith)
+    map-map (λ entry. entry + (2 + n)) (λ i. 256 * (address image t i % page_words) + size (templates image t i)) (range_with_len 0 n)
+    ∙ map_alike _ (map_word image t n) (range_with_len 0 n) (λ i. omega arith)
 
 pub draft_page : (image entries : List ℕ) (body : List Piece) (t last : ℕ) → entries ≡ starts image t (suc last) → body ≡ code image t last → draft_pieces t entries body ≡ page_pieces image t last
 unfolding page_pieces
 draft_page image entries body t last same same' =
     let n = suc last in
     let count : length entries ≡ n = ap length same ∙ length-starts image t n in
-    let row : (m : ℕ) (xs : List ℕ) → map (λ entry. Fixed (entry + (2 + m))) xs ≡ map (λ word. Fixed word) (map (λ entry. entry + (2 + m)) xs) = λ m xs. sym (map-map (λ word. Fixed word) (λ entry. entry + (2 + m)) xs) in
-    let raised : map (λ entry. Fixed (entry + (2 + length entries))) entries ≡ map (λ word. Fixed word) (map_words image t n) = ap₂ (λ m xs. map (λ entry. Fixed (entry + (2 + m))) xs) count same ∙ row n (starts image t n) ∙ ap (map (λ word. Fixed word)) (entries_raised image t n) in
+    let row : (m : ℕ) (xs : List ℕ) → map (λ entry. Fixed (entry + (2 + m))) xs ≡ map Fixed (map (λ entry. entry + (2 + m)) xs) = λ m xs. sym (map-map Fixed (λ entry. entry + (2 + m)) xs) in
+    let raised = ap₂ (λ m xs. map (λ entry. Fixed (entry + (2 + m))) xs) count same ∙ row n (starts image t n) ∙ ap (map Fixed) (entries_raised image t n) in
     let P : ℕ → List Piece → List Piece → List Piece = λ m map_part back. Fixed (t / page_words) ∷ Fixed m ∷ map_part ++ back in
     ap (λ m. P m (map (λ entry. Fixed (entry + (2 + length entries))) entries) body) count ∙ ap₂ (P n) raised same'
 

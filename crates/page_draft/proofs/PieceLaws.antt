@@ -18,58 +18,60 @@ pub size-cons : (piece : Piece) (pieces : List Piece) → size (piece ∷ pieces
 size-cons (Fixed word) pieces = omega arith
 size-cons (Link t) pieces = omega arith
 
-pub words_of-fixed : (words : List ℕ) → words_of (map (λ word. Fixed word) words) ≡ words
+pub words_of-fixed : (words : List ℕ) → words_of (map Fixed words) ≡ words
 words_of-fixed [] = refl
 words_of-fixed (word ∷ words) = ap (λ rest. word ∷ rest) (words_of-fixed words)
 
-pub size-fixed : (words : List ℕ) → size (map (λ word. Fixed word) words) ≡ length words
+pub size-fixed : (words : List ℕ) → size (map Fixed words) ≡ length words
 size-fixed words = ap length (words_of-fixed words)
 
--- pieces that stand in a row, as two rows, and two rows as one
-pub stands_split : (leads : ℕ → ℕ → Type 0) (words : List ℕ) (a : ℕ) (front back : List Piece) → Stands leads words a (front ++ back) → Stands leads words a front × Stands leads words (a + size front) back
-stands_split leads words a [] back all = (tt, let P : ℕ → Type 0 = λ b. Stands leads words b back in subst P (omega arith) all)
-stands_split leads words a (piece ∷ front) back all =
-    let rest = stands_split leads words (a + width piece) front back all.1 in
-    let P : ℕ → Type 0 = λ b. Stands leads words b back in
-    ((all.0, rest.0), subst P (omega (arith, size-cons piece front)) rest.1)
+module _ (leads : ℕ → ℕ → Type 0) (words : List ℕ) where
+  -- pieces that stand in a row, as two rows, and two rows as one
+  pub stands_split : (a : ℕ) (front back : List Piece) → Stands leads words a (front ++ back) → Stands leads words a front × Stands leads words (a + size front) back
+  stands_split a [] back all = (tt, let P : ℕ → Type 0 = λ b. Stands leads words b back in subst P (omega arith) all)
+  stands_split a (piece ∷ front) back all =
+      let rest = stands_split (a + width piece) front back all.1 in
+      let P : ℕ → Type 0 = λ b. Stands leads words b back in
+      ((all.0, rest.0), subst P (omega (arith, size-cons piece front)) rest.1)
 
-pub stands_join : (leads : ℕ → ℕ → Type 0) (words : List ℕ) (a : ℕ) (front back : List Piece) → Stands leads words a front → Stands leads words (a + size front) back → Stands leads words a (front ++ back)
-stands_join leads words a [] back first second = let P : ℕ → Type 0 = λ b. Stands leads words b back in subst P (omega arith) second
-stands_join leads words a (piece ∷ front) back first second =
-    let P : ℕ → Type 0 = λ b. Stands leads words b back in
-    (first.0, stands_join leads words (a + width piece) front back first.1 (subst P (omega (arith, size-cons piece front)) second))
+  pub stands_join : (a : ℕ) (front back : List Piece) → Stands leads words a front → Stands leads words (a + size front) back → Stands leads words a (front ++ back)
+  stands_join a [] back first second = let P : ℕ → Type 0 = λ b. Stands leads words b back in subst P (omega arith) second
+  stands_join a (piece ∷ front) back first second =
+      let P : ℕ → Type 0 = λ b. Stands leads words b back in
+      (first.0, stands_join (a + width piece) front back first.1 (subst P (omega (arith, size-cons piece front)) second))
 
--- the words of fixed pieces
-pub stands_fixed : (leads : ℕ → ℕ → Type 0) (words fixed : List ℕ) (a k : ℕ) → Stands leads words a (map (λ word. Fixed word) fixed) → k < length fixed → word_at words (a + k) ≡ get_or fixed k 0
-stands_fixed leads words [] a k all below = absurd (omega arith)
-stands_fixed leads words (word ∷ fixed) a zero all below = ap (word_at words) (omega arith) ∙ all.0
-stands_fixed leads words (word ∷ fixed) a (suc k) all below =
-    ap (word_at words) (omega arith) ∙ stands_fixed leads words fixed (a + 1) k all.1 (omega arith)
+  -- the words of fixed pieces
+  pub stands_fixed : (fixed : List ℕ) (a k : ℕ) → Stands leads words a (map Fixed fixed) → k < length fixed → word_at words (a + k) ≡ get_or fixed k 0
+  stands_fixed [] a k all below = absurd (omega arith)
+  stands_fixed (word ∷ fixed) a zero all below = ap (word_at words) (omega arith) ∙ all.0
+  stands_fixed (word ∷ fixed) a (suc k) all below = ap (word_at words) (omega arith) ∙ stands_fixed fixed (a + 1) k all.1 (omega arith)
 
--- words that are those of the pieces, with no link resolved
-pub stands_unresolved : (leads : ℕ → ℕ → Type 0) (words : List ℕ) (a : ℕ) (pieces : List Piece) → ((k : ℕ) → k < size pieces → word_at words (a + k) ≡ get_or (words_of pieces) k 0) → Stands leads words a pieces
-stands_unresolved leads words a [] agree = tt
-stands_unresolved leads words a (Fixed word ∷ pieces) agree =
-    let here : a + 0 ≡ a = omega arith in (
-      ap (word_at words) (sym here) ∙ agree 0 (omega arith),
-      stands_unresolved leads words (a + 1) pieces (λ k below.
-          ap (word_at words) (omega arith) ∙ agree (suc k) (omega arith)),
-    )
-stands_unresolved leads words a (Link t ∷ pieces) agree =
-    let target = agree 2 (omega arith) in (
-      (inl (ap (word_at words) (omega arith) ∙ agree 0 (omega arith), agree 1 (omega arith)), target),
-      stands_unresolved leads words (a + 3) pieces (λ k below.
-          ap (word_at words) (omega arith) ∙ agree (suc (suc (suc k))) (omega arith)),
-    )
+  -- words that are those of the pieces, with no link resolved
+  pub stands_unresolved : (a : ℕ) (pieces : List Piece) → ((k : ℕ) → k < size pieces → word_at words (a + k) ≡ get_or (words_of pieces) k 0) → Stands leads words a pieces
+  stands_unresolved a [] agree = tt
+  stands_unresolved a (Fixed word ∷ pieces) agree =
+      let here : a + 0 ≡ a = omega arith in (
+        ap (word_at words) (sym here) ∙ agree 0 (omega arith),
+        stands_unresolved (a + 1) pieces (λ k below.
+            ap (word_at words) (omega arith) ∙ agree (suc k) (omega arith)),
+      )
+  stands_unresolved a (Link t ∷ pieces) agree =
+      let target = agree 2 (omega arith) in (
+        (inl (ap (word_at words) (omega arith) ∙ agree 0 (omega arith), agree 1 (omega arith)), target),
+        stands_unresolved (a + 3) pieces (λ k below.
+            ap (word_at words) (omega arith) ∙ agree (suc (suc (suc k))) (omega arith)),
+      )
 
 -- the same words, where links may lead to no less
-link_same : (leads leads' : ℕ → ℕ → Type 0) (first second first' second' t : ℕ) → ((t v : ℕ) → leads t v → leads' t v) → first' ≡ first → second' ≡ second → IsLink leads first second t → IsLink leads' first' second' t
+link_same : (leads leads' : ℕ → ℕ → Type 0) (first second first' second' t : ℕ) → ((t v : ℕ) → leads t v → leads' t v) → first' ≡ first → second' ≡ second → IsLink leads first second t
+    → IsLink leads' first' second' t
 link_same leads leads' first second first' second' t more same same' link = elim link [
   | inl bridge ↦ inl (same ∙ bridge.0, same' ∙ bridge.1)
   | inr jump ↦ inr (same ∙ jump.0, (let P : ℕ → Type 0 = λ v. leads' t v in subst P (sym same') (more t second jump.1)))
 ]
 
-stands_at_same : (leads leads' : ℕ → ℕ → Type 0) (words words' : List ℕ) (a : ℕ) (piece : Piece) → ((t v : ℕ) → leads t v → leads' t v) → ((k : ℕ) → k < width piece → word_at words' (a + k) ≡ word_at words (a + k)) → StandsAt leads words a piece → StandsAt leads' words' a piece
+stands_at_same : (leads leads' : ℕ → ℕ → Type 0) (words words' : List ℕ) (a : ℕ) (piece : Piece) → ((t v : ℕ) → leads t v → leads' t v)
+    → ((k : ℕ) → k < width piece → word_at words' (a + k) ≡ word_at words (a + k)) → StandsAt leads words a piece → StandsAt leads' words' a piece
 stands_at_same leads leads' words words' a (Fixed word) more agree stands =
     let here : a ≡ a + 0 = omega arith in
     ap (word_at words') here ∙ agree 0 (omega arith) ∙ ap (word_at words) (sym here) ∙ stands
@@ -77,7 +79,8 @@ stands_at_same leads leads' words words' a (Link t) more agree stands =
     let here : a ≡ a + 0 = omega arith in
     (link_same leads leads' _ _ _ _ t more (ap (word_at words') here ∙ agree 0 (omega arith) ∙ ap (word_at words) (sym here)) (agree 1 (omega arith)) stands.0, agree 2 (omega arith) ∙ stands.1)
 
-pub stands_same : (leads leads' : ℕ → ℕ → Type 0) (words words' : List ℕ) (a : ℕ) (pieces : List Piece) → ((t v : ℕ) → leads t v → leads' t v) → ((k : ℕ) → k < size pieces → word_at words' (a + k) ≡ word_at words (a + k)) → Stands leads words a pieces → Stands leads' words' a pieces
+pub stands_same : (leads leads' : ℕ → ℕ → Type 0) (words words' : List ℕ) (a : ℕ) (pieces : List Piece) → ((t v : ℕ) → leads t v → leads' t v)
+    → ((k : ℕ) → k < size pieces → word_at words' (a + k) ≡ word_at words (a + k)) → Stands leads words a pieces → Stands leads' words' a pieces
 stands_same leads leads' words words' a [] more agree stands = tt
 stands_same leads leads' words words' a (piece ∷ pieces) more agree stands =
     let long = size-cons piece pieces in (

@@ -18,8 +18,7 @@ use Rattle.flash_words.specs.Layouts.{most_image_words}
 
 -- inside an image no address wraps, so an instruction's second word is the one at the next address
 pub same_second : (image : List ℕ) (a : ℕ) → a < length image → length image ≤ most_image_words → instruction_at image a ≡ the_form (word image a) (word image (a + 1))
-same_second image a inside short =
-    ap (λ b. the_form (word image a) (word image b)) (omega arith)
+same_second image a inside short = ap (λ b. the_form (word image a) (word image b)) (omega arith)
 
 one_or_two : (long : Bool) → (1 ≤ cond long 2 1) × (cond long 2 1 ≤ 2)
 one_or_two true = (omega arith, omega arith)
@@ -33,49 +32,45 @@ pub template_at-range : (image : List ℕ) (pc : ℕ) → (1 ≤ size (template_
 template_at-range image pc = template_size (shape_at image pc) pc (word image pc) (instruction_at image pc) (size_at image (pc + 1))
 
 pub closing_at-range : (image : List ℕ) (pc : ℕ) → (3 ≤ size (template_at image pc) + size (closing_at image pc)) × (size (closing_at image pc) ≤ 22)
-closing_at-range image pc =
-    closed_range (shape_at image pc) pc (word image pc) (next_of image pc) (instruction_at image pc) (size_at image (pc + 1))
+closing_at-range image pc = closed_range (shape_at image pc) pc (word image pc) (next_of image pc) (instruction_at image pc) (size_at image (pc + 1))
 
--- addresses and templates go up
-pub address-rises : (image : List ℕ) (t i j : ℕ) → i < j → address image t i < address image t j
-address-rises image t i zero below = absurd (omega arith)
-address-rises image t i (suc j) below =
-    let more = size_at-range image (address image t j) in
-    elim (cases_lt i j) [
-      | inl before ↦ (let earlier : address image t i < address image t j = address-rises image t i j before in omega arith)
-      | inr same ↦ (let here : address image t i ≡ address image t j = ap (address image t) (omega arith) in omega arith)
-    ]
+module _ (image : List ℕ) (t : ℕ) where
+  -- addresses and templates go up
+  pub address-rises : (i j : ℕ) → i < j → address image t i < address image t j
+  address-rises i zero below = absurd (omega arith)
+  address-rises i (suc j) below =
+      let more = size_at-range image (address image t j) in
+      elim (cases_lt i j) [
+        | inl before ↦ (let earlier : address image t i < address image t j = address-rises i j before in omega arith)
+        | inr same ↦ let here : i ≡ j = omega arith in rw here (omega arith)
+      ]
 
-pub size-templates : (image : List ℕ) (t n : ℕ) → size (templates image t (suc n)) ≡ size (templates image t n) + size (template_at image (address image t n))
-size-templates image t n = size-append (templates image t n) (template_at image (address image t n))
+  pub size-templates : (n : ℕ) → size (templates image t (suc n)) ≡ size (templates image t n) + size (template_at image (address image t n))
+  size-templates n = size-append (templates image t n) (template_at image (address image t n))
 
-pub templates-rise : (image : List ℕ) (t i j : ℕ) → i < j → size (templates image t i) + size (template_at image (address image t i)) ≤ size (templates image t j)
-templates-rise image t i zero below = absurd (omega arith)
-templates-rise image t i (suc j) below =
-    let more = size-templates image t j in
-    elim (cases_lt i j) [
-      | inl before ↦ (let earlier = templates-rise image t i j before in omega arith)
-      | inr same ↦ (
-          let here : i ≡ j = omega arith in
-          let one : size (templates image t i) ≡ size (templates image t j) = ap (λ k. size (templates image t k)) here in
-          let two : size (template_at image (address image t i)) ≡ size (template_at image (address image t j)) = ap (λ k. size (template_at image (address image t k))) here in
-          omega arith)
-    ]
+  pub templates-rise : (i j : ℕ) → i < j → size (templates image t i) + size (template_at image (address image t i)) ≤ size (templates image t j)
+  templates-rise i zero below = absurd (omega arith)
+  templates-rise i (suc j) below =
+      let more = size-templates j in
+      elim (cases_lt i j) [
+        | inl before ↦ (let earlier = templates-rise i j before in omega arith)
+        | inr same ↦ let here : i ≡ j = omega arith in rw here (omega arith)
+      ]
 
--- the words of a page
-pub length-map_words : (image : List ℕ) (t n : ℕ) → length (map_words image t n) ≡ n
-unfolding map_words
-length-map_words image t n = length-map-range_with_len (λ i. map_word image t n i) 0 n
+  -- the words of a page
+  pub length-map_words : (n : ℕ) → length (map_words image t n) ≡ n
+  unfolding map_words
+  length-map_words n = length-map-range_with_len (map_word image t n) 0 n
 
-pub size-code : (image : List ℕ) (t last : ℕ) → size (code image t last) ≡ size (templates image t (suc last)) + size (closing_at image (address image t last))
-unfolding code
-size-code image t last = size-append (templates image t (suc last)) (closing_at image (address image t last))
+  pub size-code : (last : ℕ) → size (code image t last) ≡ size (templates image t (suc last)) + size (closing_at image (address image t last))
+  unfolding code
+  size-code last = size-append (templates image t (suc last)) (closing_at image (address image t last))
 
-pub page_size-is : (image : List ℕ) (t last : ℕ) → page_size image t last ≡ last + 3 + size (templates image t (suc last)) + size (closing_at image (address image t last))
-unfolding page_pieces
-page_size-is image t last =
-    let words = map_words image t (suc last) in
-    omega (arith, size-append (map (λ word. Fixed word) words) (code image t last), size-fixed words, length-map_words image t (suc last), size-code image t last)
+  pub page_size-is : (last : ℕ) → page_size image t last ≡ last + 3 + size (templates image t (suc last)) + size (closing_at image (address image t last))
+  unfolding page_pieces
+  page_size-is last =
+      let words = map_words image t (suc last) in
+      omega (arith, size-append (map Fixed words) (code image t last), size-fixed words, length-map_words (suc last), size-code last)
 
 -- a step onward in one original page is no crossing
 pub uncounted : (from to : ℕ) → from < to → to / 128 ≡ from / 128 → is_crossing from to ≡ false
@@ -102,7 +97,6 @@ shorter_run image t last run = record {
 pub page_size-rises : (image : List ℕ) (t i last : ℕ) → IsRun image t last → i ≤ last → page_size image t i ≤ page_size image t last
 page_size-rises image t i zero run near = let same : i ≡ 0 = omega arith in omega (arith, ap (page_size image t) same)
 page_size-rises image t i (suc last) run near = elim (cases_lt i (suc last)) [
-  | inl before ↦
-      omega (arith, page_size-rises image t i last (shorter_run image t last run) (omega arith), page_grows image t last run)
+  | inl before ↦ omega (arith, page_size-rises image t i last (shorter_run image t last run) (omega arith), page_grows image t last run)
   | inr all ↦ (let same : i ≡ suc last = omega arith in omega (arith, ap (page_size image t) same))
 ]

@@ -22,18 +22,15 @@ starts-more image t n =
     let one : suc n ≡ n + 1 = omega arith in
     ap (λ m. map start (range_with_len 0 m)) one ∙ map-range_with_len_more start 0 n n (omega arith)
 
--- the draft with that instruction
-pub entries_more : (image : List ℕ) (t last : ℕ) (old new : Draft) (here : Instruction) → here.pc ≡ address image t last → old.entries.items ≡ starts image t last → old.size ≡ size (templates image t last) → Adds old new here
-    → new.entries.items ≡ starts image t (suc last)
-entries_more image t last old new here reached before sized adds =
-    adds.entries ∙ ap₂ (λ front x. front ++ x ∷ []) before (ap₂ (λ pc n. 256 * (pc % 128) + n) reached sized) ∙ sym (starts-more image t last)
+module _ (image : List ℕ) (t last : ℕ) (old new : Draft) (here : Instruction) (reached : here.pc ≡ address image t last) where
+  -- the draft with that instruction
+  pub entries_more : old.entries.items ≡ starts image t last → old.size ≡ size (templates image t last) → Adds old new here → new.entries.items ≡ starts image t (suc last)
+  entries_more before sized adds =
+      adds.entries ∙ ap₂ (λ front x. front ++ x ∷ []) before (ap₂ (λ pc n. 256 * (pc % 128) + n) reached sized) ∙ sym (starts-more image t last)
 
-pub code_more : (image : List ℕ) (t last : ℕ) (old new : Draft) (here : Instruction) → here.pc ≡ address image t last → old.code.items ≡ templates image t last → IsRead image here → Adds old new here
-    → new.code.items ≡ templates image t (suc last)
-code_more image t last old new here reached before read adds =
-    adds.code ∙ ap₂ (λ front back. front ++ back) before (read.code ∙ ap (λ pc. template_at image pc) reached)
+  pub code_more : old.code.items ≡ templates image t last → IsRead image here → Adds old new here → new.code.items ≡ templates image t (suc last)
+  code_more before read adds = adds.code ∙ ap₂ (λ front back. front ++ back) before (read.code ∙ ap (template_at image) reached)
 
-pub size_more : (image : List ℕ) (t last : ℕ) (old new : Draft) (here : Instruction) → here.pc ≡ address image t last → old.size ≡ size (templates image t last) → IsRead image here → Adds old new here
-    → new.size ≡ size (templates image t (suc last))
-size_more image t last old new here reached before read adds =
-    adds.size ∙ ap₂ (λ front back. front + back) before (read.code_size ∙ ap (λ pc. size (template_at image pc)) reached) ∙ sym (size-templates image t last)
+  pub size_more : old.size ≡ size (templates image t last) → IsRead image here → Adds old new here → new.size ≡ size (templates image t (suc last))
+  size_more before read adds =
+      adds.size ∙ ap₂ (λ front back. front + back) before (read.code_size ∙ ap (λ pc. size (template_at image pc)) reached) ∙ sym (size-templates image t last)

@@ -11,7 +11,8 @@ use Rattle.page_draft.specs.Standing.{size}
 use Rattle.page_draft.specs.Runs.{is_closed}
 
 -- what isn't closed has at least three words, and a closing has at most 22
-pub closed_range : (shape : TemplateShape) (pc first to : ℕ) (form : Option Form) (next_size : ℕ) → (3 ≤ size (template_by shape pc first form next_size) + size (cond (is_closed shape) (stub pc to) [])) × (size (cond (is_closed shape) (stub pc to) []) ≤ 22)
+pub closed_range : (shape : TemplateShape) (pc first to : ℕ) (form : Option Form) (next_size : ℕ)
+    → (3 ≤ size (template_by shape pc first form next_size) + size (cond (is_closed shape) (stub pc to) [])) × (size (cond (is_closed shape) (stub pc to) []) ≤ 22)
 unfolding template_by
 closed_range Native pc first to form next_size = let range = stub_bound pc to in (omega arith, omega arith)
 closed_range Mem pc first to form next_size = let range = stub_bound pc to in (omega arith, omega arith)

@@ -2,7 +2,7 @@
 -- then their templates and the closing, and 0xFFFF to the end (docs/LOADER.md).
 use Rattle.std.specs.Prelude.{◌≡◌, ℕ, suc, ◌+◌, ◌-◌, ◌*◌, ◌/◌, ◌%◌, ◌<◌, ◌≤◌, List, ◌∷◌, ◌++◌, length, map}
 use Rattle.std.specs.List.{range_with_len}
-use Rattle.base_laws.specs.Lists.{many}
+use Rattle.base.specs.Lists.{many}
 use Rattle.flash_words.specs.Pages.{page_words, word_at}
 use Rattle.nat_template.specs.Stubs.{words_of}
 use Rattle.nat_template.specs.declared.piece.Piece.{Piece}

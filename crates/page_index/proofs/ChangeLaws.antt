@@ -12,52 +12,53 @@ use Rattle.flash_words.proofs.LoadedLaws.{loaded_page}
 use Rattle.page_index.specs.Maps.{IsPool, page_word, entry_count, address_of, place_of, IsFree, IsMap}
 use Rattle.page_index.specs.Entries.{Lists, IsEntry, IsMapped}
 use Rattle.page_index.proofs.MapLaws.{map_bound, free_lists_nothing, same_address}
-use Rattle.base_laws.proofs.Numbers.{unequal}
+use Rattle.base.proofs.Numbers.{unequal}
 
 -- the page has the same words in both
 pub record SamePage (words words' : List ℕ) (page : ℕ) : Type 0 where
   pub word : (k : ℕ) → k < page_words → page_word words page k ≡ page_word words' page k
 
-pub same_back : (words words' : List ℕ) (page : ℕ) → SamePage words words' page → SamePage words' words page
-same_back words words' page same = record { word = λ k below. sym (same.word k below) }
+module _ (words words' : List ℕ) (page : ℕ) where
+  pub same_back : SamePage words words' page → SamePage words' words page
+  same_back same = record { word = λ k below. sym (same.word k below) }
 
--- it lists the same
-pub lists_alike : (words words' : List ℕ) (page i t v : ℕ) → SamePage words words' page → Lists words page i t v → Lists words' page i t v
-lists_alike words words' page i t v same lists =
-    let first = same.word 0 (omega arith) in
-    let entry = same.word (2 + i) (omega (arith, lists.near)) in
-    record {
-      used = omega (arith, first, lists.used);
-      near = lists.near;
-      listed = omega (arith, same.word 1 (omega arith), lists.listed);
-      address = lists.address ∙ ap₂ (λ original word. page_words * original + word / 256) first entry;
-      place = lists.place ∙ ap (λ word. page_words * page + word % 256) entry;
-    }
+  -- it lists the same
+  pub lists_alike : (i t v : ℕ) → SamePage words words' page → Lists words page i t v → Lists words' page i t v
+  lists_alike i t v same lists =
+      let first = same.word 0 (omega arith) in
+      let entry = same.word (2 + i) (omega (arith, lists.near)) in
+      record {
+        used = omega (arith, first, lists.used);
+        near = lists.near;
+        listed = omega (arith, same.word 1 (omega arith), lists.listed);
+        address = lists.address ∙ ap₂ (λ original word. page_words * original + word / 256) first entry;
+        place = lists.place ∙ ap (λ word. page_words * page + word % 256) entry;
+      }
 
--- it has a map in both
-pub map_alike : (words words' : List ℕ) (page : ℕ) → SamePage words words' page → IsMap words page → IsMap words' page
-map_alike words words' page same map =
-    let bound = map_bound words page map in
-    let first = same.word 0 (omega arith) in
-    let second = same.word 1 (omega arith) in
-    let listed : (i : ℕ) → i < entry_count words' page → i < entry_count words page = λ i below. omega arith in
-    let entry : (i : ℕ) → i < entry_count words' page → page_word words page (2 + i) ≡ page_word words' page (2 + i) = λ i below. same.word (2 + i) (omega (arith, listed i below)) in
-    let address : (i : ℕ) → i < entry_count words' page → address_of words page i ≡ address_of words' page i = λ i below. ap₂ (λ original word. page_words * original + word / 256) first (entry i below) in
-    let place : (i : ℕ) → i < entry_count words' page → place_of words page i ≡ place_of words' page i = λ i below. ap (λ word. page_words * page + word % 256) (entry i below) in
-    record {
-      original = omega (arith, first, map.original);
-      some = omega (arith, second, map.some);
-      offset = λ i below. let P : ℕ → Type 0 = λ word. word / 256 < page_words in subst P (entry i below) (map.offset i (listed i below));
-      behind = λ i below. omega (arith, second, entry i below, map.behind i (listed i below));
-      inside = λ i below. let P : ℕ → Type 0 = λ word. word % 256 < page_words in subst P (entry i below) (map.inside i (listed i below));
-      ascending = λ i j lower below.
-          let up = map.ascending i j lower (listed j below) in
-          (omega (arith, up.0, address i (omega arith), address j below), omega (arith, up.1, place i (omega arith), place j below));
-    }
+  -- it has a map in both
+  pub map_alike : SamePage words words' page → IsMap words page → IsMap words' page
+  map_alike same map =
+      let bound = map_bound words page map in
+      let first = same.word 0 (omega arith) in
+      let second = same.word 1 (omega arith) in
+      let listed : (i : ℕ) → i < entry_count words' page → i < entry_count words page = λ i below. omega arith in
+      let entry : (i : ℕ) → i < entry_count words' page → page_word words page (2 + i) ≡ page_word words' page (2 + i) = λ i below. same.word (2 + i) (omega (arith, listed i below)) in
+      let address : (i : ℕ) → i < entry_count words' page → address_of words page i ≡ address_of words' page i =
+      λ i below. ap₂ (λ original word. page_words * original + word / 256) first (entry i below) in
+      let place : (i : ℕ) → i < entry_count words' page → place_of words page i ≡ place_of words' page i = λ i below. ap (λ word. page_words * page + word % 256) (entry i below) in
+      record {
+        original = omega (arith, first, map.original);
+        some = omega (arith, second, map.some);
+        offset = λ i below. let P : ℕ → Type 0 = λ word. word / 256 < page_words in subst P (entry i below) (map.offset i (listed i below));
+        behind = λ i below. omega (arith, second, entry i below, map.behind i (listed i below));
+        inside = λ i below. let P : ℕ → Type 0 = λ word. word % 256 < page_words in subst P (entry i below) (map.inside i (listed i below));
+        ascending = λ i j lower below.
+            let up = map.ascending i j lower (listed j below) in
+            (omega (arith, up.0, address i (omega arith), address j below), omega (arith, up.1, place i (omega arith), place j below));
+      }
 
-pub free_alike : (words words' : List ℕ) (page : ℕ) → SamePage words words' page → page_words * page + page_words ≤ length words → page_words * page + page_words ≤ length words' → IsFree words page → IsFree words' page
-free_alike words words' page same inside inside' free =
-    sym (pages.page_alike words words' page page same.word inside inside') ∙ free
+  pub free_alike : SamePage words words' page → page_words * page + page_words ≤ length words → page_words * page + page_words ≤ length words' → IsFree words page → IsFree words' page
+  free_alike same inside inside' free = sym (pages.page_alike words words' page page same.word inside inside') ∙ free
 
 -- a page set leaves every other page
 pub page_left : (words new : List ℕ) (page other : ℕ) → length new ≡ page_words → page_words * page + page_words ≤ length words → other ≢ page → SamePage words (set_page words page new) other
@@ -70,7 +71,8 @@ page_left words new page other fits inside apart = record {
 }
 
 -- an entry stays where a free page is set
-pub entry_stays : (layout : Layout) (words new : List ℕ) (page t v : ℕ) → length new ≡ page_words → page_words * page + page_words ≤ length words → IsFree words page → IsEntry layout words t v → IsEntry layout (set_page words page new) t v
+pub entry_stays : (layout : Layout) (words new : List ℕ) (page t v : ℕ) → length new ≡ page_words → page_words * page + page_words ≤ length words → IsFree words page → IsEntry layout words t v
+    → IsEntry layout (set_page words page new) t v
 entry_stays layout words new page t v fits inside free entry =
     let apart : entry.page ≢ page = λ same. free_lists_nothing words page entry.index t v free (let P : ℕ → Type 0 = λ p. Lists words p entry.index t v in subst P same entry.lists) in
     record {
@@ -81,11 +83,13 @@ entry_stays layout words new page t v fits inside free entry =
     }
 
 -- what another page than the one that was set lists was listed before
-pub listed_before : (words new : List ℕ) (page other i t v : ℕ) → length new ≡ page_words → page_words * page + page_words ≤ length words → other ≢ page → Lists (set_page words page new) other i t v → Lists words other i t v
+pub listed_before : (words new : List ℕ) (page other i t v : ℕ) → length new ≡ page_words → page_words * page + page_words ≤ length words → other ≢ page → Lists (set_page words page new) other i t v
+    → Lists words other i t v
 listed_before words new page other i t v fits inside apart lists =
     lists_alike (set_page words page new) words other i t v (same_back words (set_page words page new) other (page_left words new page other fits inside apart)) lists
 
-pub entry_was : (layout : Layout) (words new : List ℕ) (page other i t v : ℕ) → length new ≡ page_words → page_words * page + page_words ≤ length words → other ≢ page → IsPool layout other → Lists (set_page words page new) other i t v → IsEntry layout words t v
+pub entry_was : (layout : Layout) (words new : List ℕ) (page other i t v : ℕ) → length new ≡ page_words → page_words * page + page_words ≤ length words → other ≢ page → IsPool layout other
+    → Lists (set_page words page new) other i t v → IsEntry layout words t v
 entry_was layout words new page other i t v fits inside apart pool lists = record {
   page = other;
   index = i;
@@ -104,7 +108,7 @@ still_mapped layout words new page right whole fits in_front mapped map fresh =
     let left : (other : ℕ) → other ≢ page → SamePage words words' other = λ other apart. page_left words new page other fits inside apart in
     record {
       pages = λ other pool. elim (cases_eq other page) [
-        | inl same ↦ inr (let P : ℕ → Type 0 = λ p. IsMap words' p in subst P (sym same) map)
+        | inl same ↦ inr (rw same map)
         | inr apart ↦ elim (mapped.pages other pool) [
           | inl free ↦ inl (free_alike words words' other (left other apart) (omega (arith, pool.to)) (omega (arith, pool.to, length')) free)
           | inr map ↦ inr (map_alike words words' other (left other apart) map)
@@ -112,14 +116,11 @@ still_mapped layout words new page right whole fits in_front mapped map fresh =
       ];
       once = λ p p' i i' t v v' pool pool' lists lists'. elim (cases_eq p page) [
         | inl same ↦ elim (cases_eq p' page) [
-          | inl same' ↦
-              let P : ℕ → Type 0 = λ q. Lists words' q i t v in
-              let P' : ℕ → Type 0 = λ q. Lists words' q i' t v' in
-              (same ∙ sym same', same_address words' page i i' t v v' map (subst P same lists) (subst P' same' lists'))
-          | inr apart' ↦ absurd (fresh i t v v' (let P : ℕ → Type 0 = λ q. Lists words' q i t v in subst P same lists) (entry_was layout words new page p' i' t v' fits inside apart' pool' lists'))
+          | inl same' ↦ (same ∙ sym same', same_address words' page i i' t v v' map (rw same at lists) (rw same' at lists'))
+          | inr apart' ↦ absurd (fresh i t v v' (rw same at lists) (entry_was layout words new page p' i' t v' fits inside apart' pool' lists'))
         ]
         | inr apart ↦ elim (cases_eq p' page) [
-          | inl same' ↦ absurd (fresh i' t v' v (let P : ℕ → Type 0 = λ q. Lists words' q i' t v' in subst P same' lists') (entry_was layout words new page p i t v fits inside apart pool lists))
+          | inl same' ↦ absurd (fresh i' t v' v (rw same' at lists') (entry_was layout words new page p i t v fits inside apart pool lists))
           | inr apart' ↦
               mapped.once p p' i i' t v v' pool pool' (listed_before words new page p i t v fits inside apart lists) (listed_before words new page p' i' t v' fits inside apart' lists')
         ]

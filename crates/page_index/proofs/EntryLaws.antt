@@ -10,7 +10,7 @@ use Rattle.page_index.proofs.MapLaws.{map_of_entry, entry_words, same_place}
 pub one_place : (layout : Layout) (words : List ℕ) (t v v' : ℕ) → IsMapped layout words → IsEntry layout words t v → IsEntry layout words t v' → v ≡ v'
 one_place layout words t v v' mapped one other =
     let same = mapped.once one.page other.page one.index other.index t v v' one.pool other.pool one.lists other.lists in
-    one.lists.place ∙ ap₂ (λ page i. place_of words page i) same.0 same.1 ∙ sym other.lists.place
+    one.lists.place ∙ ap₂ (place_of words) same.0 same.1 ∙ sym other.lists.place
 
 -- a place has one address
 pub one_address : (layout : Layout) (words : List ℕ) (t t' v : ℕ) → IsMapped layout words → IsEntry layout words t v → IsEntry layout words t' v → t ≡ t'
@@ -20,7 +20,7 @@ one_address layout words t t' v mapped one other =
     let page : one.page ≡ other.page = (entry_words words one.page one.index t v map one.lists).2 ∙ sym (entry_words words other.page other.index t' v map' other.lists).2 in
     let there : Lists words other.page one.index t v = let P : ℕ → Type 0 = λ p. Lists words p one.index t v in subst P page one.lists in
     let index : one.index ≡ other.index = same_place words other.page one.index other.index t t' v map' there other.lists in
-    one.lists.address ∙ ap₂ (λ p i. address_of words p i) page index ∙ sym other.lists.address
+    one.lists.address ∙ ap₂ (address_of words) page index ∙ sym other.lists.address
 
 -- an entry's place lies in its page
 pub page_of_place : (layout : Layout) (words : List ℕ) (t v : ℕ) → IsMapped layout words → (entry : IsEntry layout words t v) → entry.page ≡ v / page_words

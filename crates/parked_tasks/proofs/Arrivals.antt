@@ -9,7 +9,8 @@ most_made : (owed : Option ℕ) (steps : ℕ) → arrivals_by owed steps ≤ ste
 most_made None steps = omega arith
 most_made (Some owed) steps = omega arith
 
-pub arrivals_few : (tasks : List Task) → ((i : ℕ) (task : Task) → slice_get tasks i ≡ Some task → task.steps ≤ 10 ^ 12) → (i : ℕ) (task : Task) → slice_get tasks i ≡ Some task → arrivals_made task ≤ 10 ^ 12 + 1
+pub arrivals_few : (tasks : List Task) → ((i : ℕ) (task : Task) → slice_get tasks i ≡ Some task → task.steps ≤ 10 ^ 12) → (i : ℕ) (task : Task) → slice_get tasks i ≡ Some task
+    → arrivals_made task ≤ 10 ^ 12 + 1
 arrivals_few tasks few i task there = omega (arith, few i task there, most_made task.owed task.steps)
 
 pub all_here : (tasks : List Task) (k sum : ℕ) → sum ≡ sum_to arrivals_made k tasks → k ≡ length tasks → sum ≡ sum_by arrivals_made tasks

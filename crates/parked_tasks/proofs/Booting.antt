@@ -27,11 +27,11 @@ pub first_stands : (tasks before rest : List Task) (task its : Task) → tasks �
 first_stands tasks before rest task its added none is = ap (λ l. l ++ rest) (added ∙ ap₂ (λ b x. b ++ x ∷ []) none is)
 
 -- one more task, with the first of the scripts that are left
-pub next_stands : (before tasks : List Task) (i : ℕ) (scripts left : List Schedule) (script : Schedule) (parked : Parked) (task : Task) (quantum slots : ℕ)
+pub next_stands : (before tasks : List Task) (i : ℕ) (scripts left : List Schedule) (script : Schedule) {parked : Parked} (task : Task) (quantum slots : ℕ)
     → 1 ≤ length scripts → script ≡ slice_index_or scripts 0 script → left ≡ remove scripts 0 → parked ≡ parked_at_boot script quantum slots
     → task ≡ at_start i (Some parked) → tasks ≡ before ++ task ∷ [] → tasks ++ waiting_from (i + 1) left quantum slots ≡ before ++ waiting_from i scripts quantum slots
-next_stands before tasks i [] left script parked task quantum slots some taken rest kept is added = absurd (omega (arith, some))
-next_stands before tasks i (first ∷ others) left script parked task quantum slots some taken rest kept is added =
+next_stands before tasks i [] left script task quantum slots some taken rest kept is added = absurd (omega (arith, some))
+next_stands before tasks i (first ∷ others) left script task quantum slots some taken rest kept is added =
     ap₂ (λ l r. l ++ waiting_from (i + 1) r quantum slots) added rest
     ∙ append_assoc before (task ∷ []) (waiting_from (i + 1) others quantum slots)
     ∙ ap (λ x. before ++ x ∷ waiting_from (i + 1) others quantum slots) (is ∙ ap (λ p. at_start i (Some p)) (kept ∙ ap (λ s. parked_at_boot s quantum slots) taken))

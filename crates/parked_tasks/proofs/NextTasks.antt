@@ -1,5 +1,5 @@
 -- The next task that has not ended.
-use Rattle.std.proofs.Common.{◌≡◌, ℕ, suc, ◌+◌, ◌-◌, ◌<◌, ◌≤◌, Bool, true, false, cond, not, List, [], ◌∷◌, length, refl, sym, ap, ◌∙◌, arith}
+use Rattle.std.proofs.Common.{◌≡◌, ℕ, suc, ◌+◌, ◌-◌, ◌<◌, ◌≤◌, Bool, true, false, cond, not, List, ◌∷◌, length, refl, sym, ap, ◌∙◌, arith}
 use Rattle.std.specs.Prelude.{◌≢◌, All, map, is_some, slice_index_or, Option, Some, None}
 use Rattle.std.specs.List.{range_with_len, find}
 use Rattle.std.proofs.lemmas.List.{get_or-map}
@@ -19,17 +19,11 @@ some_end (Some end) = refl
 abbrev pub goes_in : List Task → ℕ → Bool
 goes_in tasks i = not (has_ended (map (λ (x : Task). flat_end_of x.end) tasks) i)
 
-pub goes_flat : (tasks : List Task) (i : ℕ) (x : Task) → i < length tasks → x ≡ slice_index_or tasks i x → goes_in tasks i ≡ not (is_some (flat_end_of x.end))
-goes_flat tasks i x below is = ap (λ e. not (is_some e)) (get_or-map (λ (y : Task). flat_end_of y.end) tasks i x None below ∙ ap (λ (y : Task). flat_end_of y.end) (sym is))
-
 goes_by : (tasks : List Task) (i : ℕ) (x : Task) → i < length tasks → x ≡ slice_index_or tasks i x → goes_in tasks i ≡ not (is_some x.end)
-goes_by tasks i x below is = goes_flat tasks i x below is ∙ ap not (some_end x.end)
+goes_by tasks i x below is = (ap (λ e. not (is_some e)) (get_or-map (λ (y : Task). flat_end_of y.end) tasks i x None below ∙ ap (λ (y : Task). flat_end_of y.end) (sym is))) ∙ ap not (some_end x.end)
 
 range_step : (a n : ℕ) → a < n → range_with_len a (n - a) ≡ a ∷ range_with_len (a + 1) (n - (a + 1))
 range_step a n less = let more : n - a ≡ suc (n - (a + 1)) = omega arith in ap (range_with_len a) more
-
-range_done : (a n : ℕ) → n ≤ a → range_with_len a (n - a) ≡ []
-range_done a n less = let none : n - a ≡ 0 = omega arith in ap (range_with_len a) none
 
 cond_true : (test : Bool) (x : ℕ) (rest : Option ℕ) → test ≡ true → cond test (Some x) rest ≡ Some x
 cond_true true x rest is = refl
@@ -44,12 +38,13 @@ pub first_here : (tasks : List Task) (i n : ℕ) (x : Task) → i < n → n ≤ 
 first_here tasks i n x less inside is going =
     ap (find (goes_in tasks)) (range_step i n less) ∙ cond_true (goes_in tasks i) i (find (goes_in tasks) (range_with_len (i + 1) (n - (i + 1)))) (goes_by tasks i x (omega arith) is ∙ ap not going)
 
-pub first_later : (tasks : List Task) (i n : ℕ) (x : Task) → i < n → n ≤ length tasks → x ≡ slice_index_or tasks i x → is_some x.end ≡ true → find (goes_in tasks) (range_with_len i (n - i)) ≡ find (goes_in tasks) (range_with_len (i + 1) (n - (i + 1)))
+pub first_later : (tasks : List Task) (i n : ℕ) (x : Task) → i < n → n ≤ length tasks → x ≡ slice_index_or tasks i x → is_some x.end ≡ true
+    → find (goes_in tasks) (range_with_len i (n - i)) ≡ find (goes_in tasks) (range_with_len (i + 1) (n - (i + 1)))
 first_later tasks i n x less inside is over =
     ap (find (goes_in tasks)) (range_step i n less) ∙ cond_false (goes_in tasks i) i (find (goes_in tasks) (range_with_len (i + 1) (n - (i + 1)))) (goes_by tasks i x (omega arith) is ∙ ap not over)
 
 pub first_none : (tasks : List Task) (i n : ℕ) → n ≤ i → find (goes_in tasks) (range_with_len i (n - i)) ≡ None
-first_none tasks i n less = ap (find (goes_in tasks)) (range_done i n less)
+first_none tasks i n less = ap (find (goes_in tasks)) (let none : n - i ≡ 0 = omega arith in ap (range_with_len i) none)
 
 -- one of the others, which has not ended
 pub record IsNext (running : ℕ) (tasks : List Task) (next : ℕ) : Type 0 where

@@ -1,5 +1,5 @@
 -- What was parked comes back, and what all tasks share stays.
-use Rattle.std.proofs.Common.{◌≡◌, ℕ, ◌+◌, ◌*◌, ◌-◌, ◌<◌, ◌≤◌, List, length, get_or, refl, ap, ap₂, ◌∙◌, sym, subst, arith, inl, inr}
+use Rattle.std.proofs.Common.{◌≡◌, ℕ, ◌+◌, ◌*◌, ◌-◌, ◌<◌, ◌≤◌, List, length, get_or, refl, ap, ap₂, ◌∙◌, sym, arith, inl, inr}
 use Rattle.std.specs.Prelude.{Bool}
 use Rattle.std.proofs.lemmas.List.{ext_get_or}
 use Rattle.std.proofs.lemmas.Bool.{cases_lt}
@@ -8,8 +8,6 @@ use Rattle.sram_layout.specs.Cells.{vsp_cell}
 use Rattle.sram_layout.proofs.PartLaws.{length-with_part, byte_in_part, byte_out_of_part, part_byte, length-part_at}
 use Rattle.avr_exec.specs.declared.cpu.Cpu.{Cpu}
 use Rattle.heap_frames.specs.SamePaging.{SamePaging}
-use Rattle.heap_frames.specs.Memory.{vmem}
-use Rattle.heap_frames.specs.Frames.{pages}
 use Rattle.heap_frames.proofs.SamePagingLaws.{vmem_same, pages_same, paged_same}
 use Rattle.mote_devices.specs.State.{State as Devices}
 use Rattle.mote_core.specs.declared.mote.Mote.{Mote}
@@ -27,10 +25,10 @@ low_size : (m low : List ℕ) → length m ≡ byte_count → length low ≡ low
 low_size m low size few = length-with_part m low low_first (omega arith) (omega arith) ∙ size
 
 pub both_size : (m low high : List ℕ) → length m ≡ byte_count → length low ≡ low_count → length high ≡ high_count → length (both m low high) ≡ byte_count
-both_size m low high size few many =
-    length-with_part (with_part m low_first low) high high_first (omega arith) (omega (arith, low_size m low size few)) ∙ low_size m low size few
+both_size m low high size few many = length-with_part (with_part m low_first low) high high_first (omega arith) (omega (arith, low_size m low size few)) ∙ low_size m low size few
 
-both_low : (m low high : List ℕ) (b : ℕ) → length m ≡ byte_count → length low ≡ low_count → length high ≡ high_count → low_first ≤ b → b < high_first → byte_at (both m low high) b ≡ byte_at (with_part m low_first low) b
+both_low : (m low high : List ℕ) (b : ℕ) → length m ≡ byte_count → length low ≡ low_count → length high ≡ high_count → low_first ≤ b → b < high_first
+    → byte_at (both m low high) b ≡ byte_at (with_part m low_first low) b
 both_low m low high b size few many from to = byte_out_of_part (with_part m low_first low) high high_first b (omega arith) (omega (arith, low_size m low size few)) (omega arith) (inl to)
 
 pub shared : (m : Mote) (p : Parked) → length m.sram ≡ byte_count → length p.low ≡ low_count → length p.high ≡ high_count → Shares m (taken_up m p)
@@ -59,7 +57,8 @@ put_low was m b whole size from to =
 
 put_high : (was m : List ℕ) (b : ℕ) → length was ≡ byte_count → length m ≡ byte_count → high_first ≤ b → b < high_first + high_count → byte_at (put was m) b ≡ byte_at was b
 put_high was m b whole size from to =
-    byte_in_part (with_part m low_first (part_at was low_first low_count)) (part_at was high_first high_count) high_first b (omega arith) (omega (arith, low_size m (part_at was low_first low_count) size (few_low was whole), few_high was whole)) from (omega (arith, few_high was whole))
+    byte_in_part (with_part m low_first (part_at was low_first low_count)) (part_at was high_first high_count) high_first b (omega arith)
+    (omega (arith, low_size m (part_at was low_first low_count) size (few_low was whole), few_high was whole)) from (omega (arith, few_high was whole))
     ∙ part_byte was high_first high_count (b - high_first) (omega arith) (omega arith)
     ∙ ap (byte_at was) (omega arith)
 
@@ -73,25 +72,23 @@ put_paging was m whole size = record {
   tables = λ b from to. put_high was m b whole size (omega arith) (omega arith);
 }
 
-put_memory : (was m : List ℕ) (w : List (List ℕ)) → length was ≡ byte_count → length m ≡ byte_count → vmem (put was m) w ≡ vmem was w
-put_memory was m w whole size = vmem_same was (put was m) w (put_paging was m whole size) (λ b from to. put_high was m b whole size (omega arith) (omega arith))
-
 put_stack : (was m : List ℕ) → length was ≡ byte_count → length m ≡ byte_count → data_word_at (put was m) vsp_cell ≡ data_word_at was vsp_cell
 unfolding data_word_at
 put_stack was m whole size = ap₂ (λ low high. low + 256 * high) (put_low was m vsp_cell whole size (omega arith) (omega arith)) (put_low was m (vsp_cell + 1) whole size (omega arith) (omega arith))
 
 -- a program's state by its parts that stand in SRAM
 flat : Mote → (sp : ℕ) (memory : List ℕ) (has : List Bool) (pc steps crossings : ℕ) → FlatState
-flat m sp memory has pc steps crossings = record { cpu = record { r = m.cpu.r; sreg = m.cpu.sreg; sp = sp; pc = pc }; memory = memory; devices = m.devices; pages = has; steps = steps; crossings = crossings }
+flat m sp memory has pc steps crossings =
+    record { cpu = record { r = m.cpu.r; sreg = m.cpu.sreg; sp = sp; pc = pc }; memory = memory; devices = m.devices; pages = has; steps = steps; crossings = crossings }
 
 put_state : (was m : Mote) (k : Kernel) (pc steps crossings : ℕ) → length was.sram ≡ byte_count → length m.sram ≡ byte_count
     → state_at (record k { mote = taken_up m (parked_of was) }) pc steps crossings ≡ state_at (record k { mote = was }) pc steps crossings
 unfolding flat
 put_state was m k pc steps crossings whole size =
     let n = put was.sram m.sram in
-    ap (λ s. flat was s (vmem n was.swap) (pages n) pc steps crossings) (put_stack was.sram m.sram whole size)
-    ∙ ap (λ v. flat was (data_word_at was.sram vsp_cell) v (pages n) pc steps crossings) (put_memory was.sram m.sram was.swap whole size)
-    ∙ ap (λ h. flat was (data_word_at was.sram vsp_cell) (vmem was.sram was.swap) h pc steps crossings) (pages_same was.sram n (put_paging was.sram m.sram whole size))
+    let paging = put_paging was.sram m.sram whole size in
+    let memory = vmem_same was.sram n was.swap paging (λ b from to. put_high was.sram m.sram b whole size (omega arith) (omega arith)) in
+    rw (put_stack was.sram m.sram whole size, memory, pages_same was.sram n paging)
 
 put_back : (was m : Mote) → length was.sram ≡ byte_count → length m.sram ≡ byte_count → IsBack was (taken_up m (parked_of was))
 put_back was m whole size = record {
@@ -105,19 +102,13 @@ put_back was m whole size = record {
 }
 
 pub back : (was m : Mote) (p : Parked) → length was.sram ≡ byte_count → length m.sram ≡ byte_count → p ≡ parked_of was → IsBack was (taken_up m p)
-back was m p whole size is =
-    let P : Parked → Type 0 = λ q. IsBack was (taken_up m q) in
-    subst P (sym is) (put_back was m whole size)
+back was m p whole size is = rw is (put_back was m whole size)
 
 -- a mote that took up what was parked, part by part
-pub took : (m : Mote) (p : Parked) (cpu : Cpu) (low sram : List ℕ) (devices : Devices) (swap : List (List ℕ)) → cpu ≡ p.cpu → low ≡ with_part m.sram low_first p.low → sram ≡ with_part low high_first p.high → devices ≡ p.devices → swap ≡ p.swap
+pub took : (m : Mote) (p : Parked) (cpu : Cpu) (low sram : List ℕ) (devices : Devices) (swap : List (List ℕ)) → cpu ≡ p.cpu → low ≡ with_part m.sram low_first p.low
+    → sram ≡ with_part low high_first p.high → devices ≡ p.devices → swap ≡ p.swap
     → ◌≡◌ {A = Mote} (record { cpu = cpu; sram = sram; flash = m.flash; devices = devices; swap = swap }) (taken_up m p)
-took m p cpu low sram devices swap ec el es ed ew =
-    let make : Cpu → List ℕ → Devices → List (List ℕ) → Mote = λ c r d w. record { cpu = c; sram = r; flash = m.flash; devices = d; swap = w } in
-    ap (λ c. make c sram devices swap) ec
-    ∙ ap (λ r. make p.cpu r devices swap) (es ∙ ap (λ l. with_part l high_first p.high) el)
-    ∙ ap (λ d. make p.cpu (both m.sram p.low p.high) d swap) ed
-    ∙ ap (λ w. make p.cpu (both m.sram p.low p.high) p.devices w) ew
+took m p cpu low sram devices swap ec el es ed ew = rw (ec, es, el, ed, ew)
 
 -- Changes one behind the other. ---------------------------------------------------------------------------
 
@@ -130,17 +121,22 @@ same_bytes : (m n : List ℕ) → length m ≡ byte_count → length n ≡ byte_
 same_bytes m n size size' same = ext_get_or 0 m n (omega arith) (λ i below. byte_of m i ∙ same (256 + i) (omega arith) (omega arith) ∙ sym (byte_of n i))
 
 -- a byte of SRAM with both parts written
-pub both_in_low : (m low high : List ℕ) (b : ℕ) → length m ≡ byte_count → length low ≡ low_count → length high ≡ high_count → low_first ≤ b → b < low_first + low_count → byte_at (both m low high) b ≡ get_or low (b - low_first) 0
+pub both_in_low : (m low high : List ℕ) (b : ℕ) → length m ≡ byte_count → length low ≡ low_count → length high ≡ high_count → low_first ≤ b → b < low_first + low_count
+    → byte_at (both m low high) b ≡ get_or low (b - low_first) 0
 both_in_low m low high b size few many from to = both_low m low high b size few many from (omega arith) ∙ byte_in_part m low low_first b (omega arith) (omega arith) from (omega arith)
 
-pub both_between : (m low high : List ℕ) (b : ℕ) → length m ≡ byte_count → length low ≡ low_count → length high ≡ high_count → low_first + low_count ≤ b → b < high_first → byte_at (both m low high) b ≡ byte_at m b
-both_between m low high b size few many from to = both_low m low high b size few many (omega arith) to ∙ byte_out_of_part m low low_first b (omega arith) (omega arith) (omega arith) (inr (omega arith))
+pub both_between : (m low high : List ℕ) (b : ℕ) → length m ≡ byte_count → length low ≡ low_count → length high ≡ high_count → low_first + low_count ≤ b → b < high_first
+    → byte_at (both m low high) b ≡ byte_at m b
+both_between m low high b size few many from to = both_low m low high b size few many (omega arith) to
+    ∙ byte_out_of_part m low low_first b (omega arith) (omega arith) (omega arith) (inr (omega arith))
 
-pub both_in_high : (m low high : List ℕ) (b : ℕ) → length m ≡ byte_count → length low ≡ low_count → length high ≡ high_count → high_first ≤ b → b < high_first + high_count → byte_at (both m low high) b ≡ get_or high (b - high_first) 0
+pub both_in_high : (m low high : List ℕ) (b : ℕ) → length m ≡ byte_count → length low ≡ low_count → length high ≡ high_count → high_first ≤ b → b < high_first + high_count
+    → byte_at (both m low high) b ≡ get_or high (b - high_first) 0
 both_in_high m low high b size few many from to = byte_in_part (with_part m low_first low) high high_first b (omega arith) (omega (arith, low_size m low size few)) from (omega arith)
 
 -- what was written before is gone
-both_twice : (m low high low' high' : List ℕ) → length m ≡ byte_count → length low ≡ low_count → length high ≡ high_count → length low' ≡ low_count → length high' ≡ high_count → both (both m low high) low' high' ≡ both m low' high'
+both_twice : (m low high low' high' : List ℕ) → length m ≡ byte_count → length low ≡ low_count → length high ≡ high_count → length low' ≡ low_count → length high' ≡ high_count
+    → both (both m low high) low' high' ≡ both m low' high'
 both_twice m low high low' high' size few many few' many' =
     let n = both m low high in
     let size_n = both_size m low high size few many in
@@ -169,7 +165,7 @@ both_back m low high size few many =
 
 -- a task that waits while two others are changed would take up the mote just as before
 pub taken_twice : (m : Mote) (p q : Parked) → length m.sram ≡ byte_count → IsSized p → IsSized q → taken_up (taken_up m p) q ≡ taken_up m q
-taken_twice m p q size sized sized' = ap (λ s. record m { cpu = q.cpu; sram = s; swap = q.swap; devices = q.devices }) (both_twice m.sram p.low p.high q.low q.high size sized.0 sized.1 sized'.0 sized'.1)
+taken_twice m p q size sized sized' = rw (both_twice m.sram p.low p.high q.low q.high size sized.0 sized.1 sized'.0 sized'.1)
 
 -- and so would the one that was parked now
 pub taken_back : (m : Mote) (p : Parked) → length m.sram ≡ byte_count → IsSized p → taken_up (taken_up m p) (parked_of m) ≡ m

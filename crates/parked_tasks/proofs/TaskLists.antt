@@ -15,7 +15,8 @@ is_at tasks i x task is there = is ∙ get_or_from_slice_get tasks i task x ther
 pub get_at : (tasks : List Task) (i : ℕ) (x : Task) → i < length tasks → x ≡ slice_index_or tasks i x → slice_get tasks i ≡ Some x
 get_at tasks i x below is = slice_get-get_or tasks i x below ∙ ap (λ z. Some z) (sym is)
 
-pub parking_here : (tasks : List Task) (i : ℕ) (parked : Option Parked) (task : Task) → slice_get tasks i ≡ Some task → slice_get (parking tasks i parked (slice_get tasks i)) i ≡ Some (record task { parked = parked })
+pub parking_here : (tasks : List Task) (i : ℕ) (parked : Option Parked) (task : Task) → slice_get tasks i ≡ Some task
+    → slice_get (parking tasks i parked (slice_get tasks i)) i ≡ Some (record task { parked = parked })
 parking_here [] i parked task is = absurd (cc)
 parking_here (t ∷ tasks) zero parked task is = let e : t ≡ task = cc in ap (λ (x : Task). Some (record x { parked = parked })) e
 parking_here (t ∷ tasks) (suc i) parked task is =
@@ -66,8 +67,8 @@ handed tasks running next x y left back mote below runs is_left is_back =
     ∙ put_at given running (Some (parked_of mote)) y (omega (arith, runs, parking_length tasks next None (slice_get tasks next)))
 
 -- what was parked of the next task
-pub was_parked : (tasks : List Task) (next : ℕ) (x : Task) (parked : Parked) → next < length tasks → Some parked ≡ (slice_index_or tasks next x).parked → parked_by (slice_get tasks next) ≡ Some parked
-was_parked tasks next x parked below value = ap parked_by (slice_get-get_or tasks next x below) ∙ sym value
+pub was_parked : (tasks : List Task) (next : ℕ) (x : Task) {parked : Parked} → next < length tasks → Some parked ≡ (slice_index_or tasks next x).parked → parked_by (slice_get tasks next) ≡ Some parked
+was_parked tasks next x below value = ap parked_by (slice_get-get_or tasks next x below) ∙ sym value
 
 pub same_parked : (o : Option Parked) (p q : Parked) → o ≡ Some p → o ≡ Some q → p ≡ q
 same_parked o p q is is' = cc

@@ -5,7 +5,7 @@ use Rattle.std.proofs.lemmas.List.FromFn.{length-map-range_with_len}
 use Rattle.std.proofs.lemmas.Option.{same_Some}
 use Rattle.avr_isa.specs.Image.{word}
 use Rattle.sram_layout.specs.Boot.{at_boot}
-use Rattle.sram_layout.specs.Bytes.{byte_count}
+use Rattle.sram_layout.specs.Bytes.{byte_count, with_byte}
 use Rattle.sram_layout.specs.Cells.{count_cell}
 use Rattle.sram_layout.proofs.Laws.{length-with_byte}
 use Rattle.sram_layout.proofs.BootLaws.{length-at_boot}
@@ -15,13 +15,13 @@ use Rattle.task_input.specs.Images.{quarter, task_words}
 use Rattle.parked_tasks.specs.Parking.{taken_up}
 use Rattle.parked_tasks.specs.AtBoot.{mote_at_boot, at_start, parked_at_boot, waiting_from}
 use Rattle.parked_tasks.proofs.Parkings.{both_own}
-use Rattle.sram_layout.specs.Bytes.{byte_count, with_byte}
 
 pub size_at_boot : (quantum : ℕ) → length (with_byte at_boot count_cell quantum) ≡ byte_count
 size_at_boot quantum = length-with_byte at_boot count_cell quantum ∙ length-at_boot
 
 -- the mote that a waiting task would have is that of boot with its own script
-pub taken_at_boot : (words : List ℕ) (first script : Schedule) (quantum slots : ℕ) → taken_up (mote_at_boot words first quantum slots) (parked_at_boot script quantum slots) ≡ mote_at_boot words script quantum slots
+pub taken_at_boot : (words : List ℕ) (first script : Schedule) (quantum slots : ℕ)
+    → taken_up (mote_at_boot words first quantum slots) (parked_at_boot script quantum slots) ≡ mote_at_boot words script quantum slots
 taken_at_boot words first script quantum slots = ap (λ s. record (mote_at_boot words script quantum slots) { sram = s }) (both_own (with_byte at_boot count_cell quantum) (size_at_boot quantum))
 
 -- one of the waiting tasks

@@ -9,12 +9,12 @@ ghost use Rattle.parked_tasks.specs.AtBoot.{at_start, kernel_at_boot, waiting_fr
 
 use crate::parked::Parked;
 use crate::task::{Task, quarter_of};
+use base::NoMemory;
 use flash_words::Layout;
 use hex_image::Image;
 use input_script::Script;
 use kernel_entry::Kernel;
 use mote_core::Mote;
-use no_memory::NoMemory;
 use std::alloc::Global;
 use task_input::task_image;
 

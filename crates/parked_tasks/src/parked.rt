@@ -7,10 +7,10 @@ ghost use Rattle.parked_tasks.specs.Parking.{parked_of, taken_up, Shares, IsBack
 ghost use Rattle.parked_tasks.specs.AtBoot.{parked_at_boot};
 
 use avr_exec::Cpu;
+use base::NoMemory;
 use input_script::Script;
 use mote_core::Mote;
 use mote_devices::Devices;
-use no_memory::NoMemory;
 use sram_layout::{KERNEL_STACK_TOP, PLACE_CELLS, SRAM_BEHIND, SRAM_FIRST, SWAP_MAP, Sram};
 use std::alloc::Global;
 use std::mem::swap;
@@ -41,7 +41,7 @@ pub struct Parked {
 
 impl Parked {
     /// What is parked of a task at boot, with its script, the quantum in COUNT, and this many swap slots.
-    #[tactic(auto, unfolding(base_laws::specs::Lists::many))]
+    #[tactic(auto, unfolding(base::specs::Lists::many))]
     pub(crate) fn at_boot(
         alloc: Global,
         script: Script,

@@ -1,5 +1,5 @@
 -- Rewritten code tells its first address and its number of instructions itself.
-use Rattle.std.proofs.Common.{◌≡◌, ℕ, ◌+◌, ◌*◌, ◌<◌, ◌≤◌, List, length, arith, sym, ap, ◌∙◌, subst}
+use Rattle.std.proofs.Common.{◌≡◌, ℕ, ◌+◌, ◌*◌, ◌<◌, ◌≤◌, List, length, arith, ap, ◌∙◌}
 use Rattle.flash_words.specs.Pages.{word_at}
 use Rattle.flash_words.specs.Layouts.{most_image_words, most_image_pages, most_entries}
 use Rattle.nat_template.specs.declared.piece.Piece.{Piece}
@@ -19,11 +19,7 @@ pub record IsTold (words : List ℕ) : Type 0 where
 pub told : (image words : List ℕ) → length image ≤ most_image_words → IsCodePage image words 0 → IsTold words
 told image words short code =
     let run = own image words code in
-    record {
-      original = omega (arith, run.holds.run.inside 0 (omega arith));
-      some = omega (arith, run.some);
-      few = omega (arith, run.few);
-    }
+    record { original = omega (arith, run.holds.run.inside 0 (omega arith)); some = omega (arith, run.some); few = omega (arith, run.few) }
 
 -- so it holds the run that its words tell
 pub holds_told : (image words : List ℕ) → IsCodePage image words 0 → HoldsRun Anywhere image words 0 (first_told words) (last_told words)
@@ -34,22 +30,20 @@ page_told image words code =
     let holds = holds_told image words code in
     record { run = holds.run; fits = holds.fits }
 
-pub stands_told : (image words : List ℕ) (pieces : List Piece) → pieces ≡ page_pieces image (first_told words) (last_told words) → IsCodePage image words 0 → Stands Anywhere words 0 pieces
-stands_told image words pieces is code =
-    let P : List Piece → Type 0 = λ row. Stands Anywhere words 0 row in
-    subst P (sym is) (holds_told image words code).stands
+module _ (image words : List ℕ) (pieces : List Piece) (is : pieces ≡ page_pieces image (first_told words) (last_told words)) (code : IsCodePage image words 0) where
+  pub stands_told : Stands Anywhere words 0 pieces
+  stands_told = rw is (holds_told image words code).stands
 
-pub rest_told : (image words : List ℕ) (pieces : List Piece) → pieces ≡ page_pieces image (first_told words) (last_told words) → IsCodePage image words 0 → (k : ℕ) → size pieces ≤ k → k < 128 → word_at words k ≡ 0xFFFF
-rest_told image words pieces is code k behind below =
-    let same : size pieces ≡ page_size image (first_told words) (last_told words) = ap size is in
-    let here : k ≡ 128 * 0 + k = omega arith in
-    ap (word_at words) here ∙ (holds_told image words code).rest k (omega arith) below
+  pub rest_told : (k : ℕ) → size pieces ≤ k → k < 128 → word_at words k ≡ 0xFFFF
+  rest_told k behind below =
+      let same : size pieces ≡ page_size image (first_told words) (last_told words) = ap size is in
+      let here : k ≡ 128 * 0 + k = omega arith in
+      ap (word_at words) here ∙ (holds_told image words code).rest k (omega arith) below
 
 -- and a page that is made anew in the same way is code
 pub is_code : (image words : List ℕ) (t last : ℕ) (pieces : List Piece) → IsPage image t last → pieces ≡ page_pieces image t last → Stands Anywhere words 0 pieces
     → ((k : ℕ) → size pieces ≤ k → k < 128 → word_at words k ≡ 0xFFFF) → IsCodePage image words 0
 is_code image words t last pieces page is stands rest =
-    let P : List Piece → Type 0 = λ row. Stands Anywhere words 0 row in
     let same : size pieces ≡ page_size image t last = ap size is in
     record {
       first = t;
@@ -57,7 +51,7 @@ is_code image words t last pieces page is stands rest =
       holds = record {
         run = page.run;
         fits = page.fits;
-        stands = subst P is stands;
+        stands = rw is at stands;
         rest = λ k behind below. let here : 128 * 0 + k ≡ k = omega arith in ap (word_at words) here ∙ rest k (omega arith) below;
       };
     }

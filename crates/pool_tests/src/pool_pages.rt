@@ -5,9 +5,10 @@ ghost use Rattle.flash_words.specs.Layouts.{IsRight, image_of};
 ghost use Rattle.nat_page.specs.Faithful.{IsFaithful};
 ghost use Rattle.nat_page.specs.Making.{HasNoEntry};
 
-use crate::support::{LOOP, has, loaded, loaded_to_fail, loop_page};
+use crate::support::{LOOP, crossing_stub, has, loaded, loaded_to_fail, loop_page};
 use flash_model::{Flash, Layout};
 use nat_page::{NatStop, naturalise};
+use nat_template::template;
 use page_index::{entry, free_page};
 use std::process::Abort;
 use std::test::Fail;
@@ -64,11 +65,11 @@ fn the_worked_page(rt: HostRuntime) -> Result<(), Fail> {
     let layout = Layout::of(4);
     let mut flash = loaded(&rt, &layout, &LOOP)?;
     is_made(&rt, &mut flash, &layout, 0, 0x4006);
-    has(&rt, &flash, &loop_page([0x940E, 0xF000]));
+    has(&rt, &flash, &[&loop_page([0x940E, 0xF000])]);
     Ok(())
 }
 
-/// PUSH r16 has 39 words, behind which its run goes on.
+/// PUSH r16 has the 39 words of its template, behind which its run goes on.
 #[test]
 fn a_push_stands_inline(rt: HostRuntime) -> Result<(), Fail> {
     let layout = Layout::of(2);
@@ -78,11 +79,9 @@ fn a_push_stands_inline(rt: HostRuntime) -> Result<(), Fail> {
         &rt,
         &flash,
         &[
-            0x0000, 0x0002, 0x0004, 0x012B, 0x93E0, 0x0105, 0x93F0, 0x0106, 0xB7EF, 0x93E0, 0x0102,
-            0x91E0, 0x0103, 0x91F0, 0x0104, 0x30FD, 0xF080, 0x31F1, 0xF470, 0x8300, 0x9731, 0x93E0,
-            0x0103, 0x93F0, 0x0104, 0x91E0, 0x0102, 0xBFEF, 0x91E0, 0x0105, 0x91F0, 0x0106, 0xC00A,
-            0x91E0, 0x0102, 0xBFEF, 0x91E0, 0x0105, 0x91F0, 0x0106, 0x940E, 0xF004, 0x0000, 0x940E,
-            0xF00C, 0x0001,
+            &[0x0000, 0x0002, 0x0004, 0x012B],
+            template(0, 0x930F, 0xCFFF, 1).as_slice(),
+            &[0x940E, 0xF00C, 0x0001],
         ],
     );
     Ok(())
@@ -98,7 +97,7 @@ fn a_run_ends_before_an_entry(rt: HostRuntime) -> Result<(), Fail> {
     has(
         &rt,
         &flash,
-        &[0x0000, 0x0001, 0x0103, 0x950A, 0x940E, 0xF000, 0x0002],
+        &[&[0x0000, 0x0001, 0x0103, 0x950A, 0x940E, 0xF000, 0x0002]],
     );
     is_made(&rt, &mut flash, &layout, 0, 0x4083);
     assert!(rt; flash.word(0x4081) == 0x0001);
@@ -153,12 +152,12 @@ fn a_run_ends_at_its_page(rt: HostRuntime) -> Result<(), Fail> {
         &rt,
         &flash,
         &[
-            0x0000, 0x0003, 0x7C05, 0x7E1E, 0x7F21, 0x940E, 0xF006, 0x007C, 0x9380, 0x0101, 0xB78F,
-            0x9380, 0x0102, 0x9180, 0x0100, 0x958A, 0x9380, 0x0100, 0xF041, 0x9180, 0x0102, 0xBF8F,
-            0x9180, 0x0101, 0x940E, 0xF000, 0x0005, 0x940E, 0xF002, 0x0005, 0x940E, 0xF00A, 0x007E,
-            0x940E, 0xF004, 0x007F, 0x9380, 0x0101, 0xB78F, 0x9380, 0x0102, 0x9180, 0x0100, 0x958A,
-            0x9380, 0x0100, 0xF041, 0x9180, 0x0102, 0xBF8F, 0x9180, 0x0101, 0x940E, 0xF000, 0x0081,
-            0x940E, 0xF002, 0x0081,
+            &[0x0000, 0x0003, 0x7C05, 0x7E1E, 0x7F21],
+            &[0x940E, 0xF006, 0x007C],
+            &crossing_stub([0x940E, 0xF000], 0x0005),
+            &[0x940E, 0xF00A, 0x007E],
+            &[0x940E, 0xF004, 0x007F],
+            &crossing_stub([0x940E, 0xF000], 0x0081),
         ],
     );
     Ok(())

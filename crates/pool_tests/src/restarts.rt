@@ -69,9 +69,9 @@ fn restarted(rt: &HostRuntime, image: &[u16], pages: &[[u16; 128]; 3]) -> Result
 {
     let layout = Layout::of(image.len() as u16);
     let mut flash = unfailing(rt, &layout, image)?;
-    tear(&mut flash, &layout, 128, &pages[0]);
-    tear(&mut flash, &layout, 129, &pages[1]);
-    tear(&mut flash, &layout, 130, &pages[2]);
+    tear(&mut flash, 128, &pages[0]);
+    tear(&mut flash, 129, &pages[1]);
+    tear(&mut flash, 130, &pages[2]);
     let told = restart(&mut flash, image, &layout);
     Ok(Left { told, flash })
 }
@@ -308,8 +308,8 @@ fn restarted_in(rt: &HostRuntime, layout: &Layout, pages: &[[u16; 128]; 2]) -> R
     requires pool { layout.now.pool_pages ≡ 2 }
 {
     let mut flash = unfailing(rt, layout, &ROUND)?;
-    tear(&mut flash, layout, 128, &pages[0]);
-    tear(&mut flash, layout, 129, &pages[1]);
+    tear(&mut flash, 128, &pages[0]);
+    tear(&mut flash, 129, &pages[1]);
     let told = restart(&mut flash, &ROUND, layout);
     Ok(Left { told, flash })
 }

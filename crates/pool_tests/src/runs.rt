@@ -78,7 +78,7 @@ fn a_stub_is_patched_where_it_was_run(rt: HostRuntime) -> Result<(), Fail> {
     let mut m = boot(&rt, &LOOP, 255)?;
     is_halted(&rt, &mut m, &mut out, 3)?;
     let mote = &m.kernel.mote;
-    has(&rt, &mote.flash, &loop_page([0x940C, 0x4007]));
+    has(&rt, &mote.flash, &[&loop_page([0x940C, 0x4007])]);
     assert!(rt; mote.flash.erases(128) == 1);
     assert!(rt; mote.sram.aside(1) == (1, 0x4007));
     Ok(())

@@ -16,21 +16,36 @@ use std::process::Abort;
 /// LDI r16, 3; DEC r16; BRNE 1; RJMP to itself.
 pub(crate) const LOOP: [u16; 4] = [0xE003, 0x950A, 0xF7F1, 0xCFFF];
 
-/// The page of the loop. Its branch back leads through these two words.
-pub(crate) fn loop_page(way: [u16; 2]) -> [u16; 35] {
+/// The crossing stub to an address, which leads through these two words.
+pub(crate) fn crossing_stub(way: [u16; 2], t: u16) -> [u16; 22] {
     [
-        0x0000, 0x0004, 0x0006, 0x0107, 0x0208, 0x0320, 0xE003, 0x950A, 0xF409, 0xC016, 0x9380,
-        0x0101, 0xB78F, 0x9380, 0x0102, 0x9180, 0x0100, 0x958A, 0x9380, 0x0100, 0xF041, 0x9180,
-        0x0102, 0xBF8F, 0x9180, 0x0101, way[0], way[1], 0x0001, 0x940E, 0xF002, 0x0001, 0x940E,
-        0xF00C, 0x0003,
+        0x9380, 0x0101, 0xB78F, 0x9380, 0x0102, 0x9180, 0x0100, 0x958A, 0x9380, 0x0100, 0xF041,
+        0x9180, 0x0102, 0xBF8F, 0x9180, 0x0101, way[0], way[1], t, 0x940E, 0xF002, t,
     ]
 }
 
-/// The first page of the pool has these words, and erased words behind them.
-pub(crate) fn has(rt: &impl Abort, flash: &Flash, words: &[u16]) {
-    for i in 0..128u16 {
-        let expected = words.get(i as usize).copied().unwrap_or(0xFFFF);
-        assert!(rt; flash.word(0x4000 + i) == expected, "place {i}");
+/// The page of the loop. Its branch back leads through these two words.
+pub(crate) fn loop_page(way: [u16; 2]) -> [u16; 35] {
+    let mut page = [0x0000; 35];
+    page[..10].copy_from_slice(&[
+        0x0000, 0x0004, 0x0006, 0x0107, 0x0208, 0x0320, 0xE003, 0x950A, 0xF409, 0xC016,
+    ]);
+    page[10..32].copy_from_slice(&crossing_stub(way, 0x0001));
+    page[32..].copy_from_slice(&[0x940E, 0xF00C, 0x0003]);
+    page
+}
+
+/// The first page of the pool has these words, part behind part, and erased words behind them.
+pub(crate) fn has(rt: &impl Abort, flash: &Flash, parts: &[&[u16]]) {
+    let mut place = 0x4000u16;
+    for part in parts {
+        for word in *part {
+            assert!(rt; flash.word(place) == *word, "place {place}");
+            place = place.wrapping_add(1);
+        }
+    }
+    for erased in place..0x4080 {
+        assert!(rt; flash.word(erased) == 0xFFFF, "place {erased}");
     }
 }
 

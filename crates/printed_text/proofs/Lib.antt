@@ -1,3 +1,4 @@
--- What follows of stop lines, and texts at worked values.
+-- What follows of stop lines and of gathered texts, and texts at worked values.
 pub mod StopLines
 mod WorkedTexts
+pub mod Gathered

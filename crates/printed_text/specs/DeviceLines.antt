@@ -1,6 +1,6 @@
 -- The lines of writes to outputs of devices (docs/FORMATS.md, "What is printed").
 use Rattle.std.specs.Prelude.{ℕ, List, ◌++◌, codes, flat_map}
-use Rattle.line_writer.specs.Pieces.{byte_text}
+use Rattle.text_lines.specs.Pieces.{byte_text}
 use Rattle.mote_devices.specs.declared.line.Line.{Line}
 use Rattle.mote_devices.specs.declared.line.Port.{Port}
 use Rattle.mote_devices.specs.declared.line.Port.TheVariants.{PortA, PortB, PortC, PortD, DdrA, DdrB, DdrC, DdrD, Uart0}

@@ -1,6 +1,6 @@
 -- How the original program's run ended, and its stop line (docs/FORMATS.md, "What is printed").
 use Rattle.std.specs.Prelude.{ℕ, List, ◌++◌, codes, decimal}
-use Rattle.line_writer.specs.Pieces.{address_text}
+use Rattle.text_lines.specs.Pieces.{address_text}
 use Rattle.flat_machine.specs.FlatMachine.{End, Spent, Wild, Illegal, SelfProgram, Asleep, Halted, Read, Io, Stack, SwapFull}
 
 -- how a run ended; one also names the word that it may not read, and the last three the data address

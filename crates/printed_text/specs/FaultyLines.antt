@@ -1,7 +1,7 @@
 -- The lines that name what is wrong with an input: a faulty line of a part of it, with its fault, or a word of the image of
 -- several tasks (docs/FORMATS.md).
 use Rattle.std.specs.Prelude.{ℕ, List, ◌++◌, codes, decimal}
-use Rattle.line_writer.specs.Pieces.{address_text}
+use Rattle.text_lines.specs.Pieces.{address_text}
 use Rattle.hex_image.specs.declared.fault.HexFault.{HexFault}
 use Rattle.hex_image.specs.declared.fault.HexFault.TheVariants as hex_faults
 use Rattle.input_script.specs.declared.fault.ScriptFault.{ScriptFault}

@@ -8,3 +8,4 @@ pub mod RestartLines
 pub mod Verdicts
 pub mod FaultyLines
 pub mod PlainLines
+pub mod Gathering

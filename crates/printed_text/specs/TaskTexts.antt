@@ -3,7 +3,7 @@ use Rattle.std.specs.Prelude.{ℕ, List, [], ◌++◌, Option, Some, None}
 use Rattle.mote_devices.specs.declared.line.Line.{Line}
 use Rattle.printed_text.specs.DeviceLines.{device_line_text}
 use Rattle.kernel_entry.specs.declared.kernel.End.{End}
-use Rattle.line_writer.specs.Pieces.{task_text}
+use Rattle.text_lines.specs.Pieces.{task_text}
 use Rattle.printed_text.specs.StopLines.{end_line}
 
 abbrev pub device_told : ℕ → Option Line → List ℕ

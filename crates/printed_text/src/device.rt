@@ -3,8 +3,8 @@ ghost use Rattle.std.specs.Prelude.{◌≡◌, ◌≤◌, length};
 ghost use Rattle.arrayvec.specs.ArrayVec.{array_vec_len};
 ghost use Rattle.printed_text.specs.DeviceLines.{device_line_text, port_name};
 
-use line_writer::{Text, push, push_byte};
 use mote_devices::{Line, Port};
+use text_lines::{Text, push, push_byte};
 
 /// The name of the output, and the value that was written.
 #[tactic(auto, unfolding(crate::specs::DeviceLines::device_line_text))]

@@ -6,7 +6,7 @@ use avr_asm::AsmFault;
 use flash_dump::DumpFault;
 use hex_image::HexFault;
 use input_script::ScriptFault;
-use line_writer::{Text, push, push_address, push_number, whole};
+use text_lines::{Text, push, push_address, push_number, whole};
 
 /// The HEX text is broken: its first faulty line, from 1, and the line's first fault.
 pub fn bad_hex_line(line: u32, fault: HexFault) -> Text

@@ -3,7 +3,7 @@ ghost use Rattle.std.specs.Prelude.{◌≡◌, ◌≤◌, ◌++◌, codes, decim
 ghost use Rattle.arrayvec.specs.ArrayVec.{array_vec_len};
 ghost use Rattle.printed_text.specs.Counts.{count_text, tasks_count_text};
 
-use line_writer::{Text, push, push_number, whole};
+use text_lines::{Text, push, push_number, whole};
 
 /// The count line of a run: plain steps, kernel services, and pages made.
 #[tactic(auto, unfolding(crate::specs::Counts::count_text))]

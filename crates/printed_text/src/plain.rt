@@ -2,7 +2,7 @@
 ghost use Rattle.std.specs.Prelude.{◌≡◌};
 ghost use Rattle.printed_text.specs.PlainLines.{no_memory_line, read_fault_line, too_long_line, usage_line};
 
-use line_writer::{Text, whole};
+use text_lines::{Text, whole};
 
 /// The usage line.
 pub fn usage_line() -> Text

@@ -2,7 +2,7 @@
 ghost use Rattle.std.specs.Prelude.{◌≡◌};
 ghost use Rattle.printed_text.specs.RestartLines.{restart_text};
 
-use line_writer::{Text, push, push_number};
+use text_lines::{Text, push, push_number};
 
 /// The line of a restart: how many pages were kept, and how many were dropped.
 #[tactic(auto, unfolding(crate::specs::RestartLines::restart_text))]

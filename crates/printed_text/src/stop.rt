@@ -1,11 +1,11 @@
 //! The line that tells how a run ended.
 ghost use Rattle.std.specs.Prelude.{◌≡◌, ◌+◌, ◌≤◌, ◌++◌, codes, decimal, length};
 ghost use Rattle.arrayvec.specs.ArrayVec.{array_vec_len};
-ghost use Rattle.line_writer.specs.Pieces.{address_text};
+ghost use Rattle.text_lines.specs.Pieces.{address_text};
 ghost use Rattle.printed_text.specs.StopLines.{end_line, how_text};
 
 use kernel_entry::{End, Stop};
-use line_writer::{Text, push, push_address, push_number, whole};
+use text_lines::{Text, push, push_address, push_number, whole};
 
 /// The stop line: how the run ended, and after how many steps and checkpoints.
 #[tactic(auto, unfolding(crate::specs::StopLines::end_line))]

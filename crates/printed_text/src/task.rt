@@ -1,15 +1,15 @@
 //! The lines of one of several tasks.
 ghost use Rattle.std.specs.Prelude.{◌≡◌, ◌<◌, ◌≤◌, ◌++◌};
 ghost use Rattle.arrayvec.specs.ArrayVec.{array_vec_len};
-ghost use Rattle.line_writer.specs.Pieces.{task_text};
+ghost use Rattle.text_lines.specs.Pieces.{task_text};
 ghost use Rattle.printed_text.specs.DeviceLines.{device_line_text};
 ghost use Rattle.printed_text.specs.StopLines.{end_line};
 
 use crate::device::device_line;
 use crate::stop::stop_line;
 use kernel_entry::End;
-use line_writer::{Text, push, whole};
 use mote_devices::Line;
+use text_lines::{Text, push, whole};
 
 /// A task's device line.
 pub fn task_line(task: u8, line: Line) -> Text

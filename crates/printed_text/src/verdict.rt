@@ -2,8 +2,8 @@
 ghost use Rattle.std.specs.Prelude.{◌≡◌, ◌≤◌, ◌++◌, decimal, length};
 ghost use Rattle.printed_text.specs.Verdicts.{verdict_text};
 
-use line_writer::{Text, push, push_number, whole};
 use pool_check::Verdict;
+use text_lines::{Text, push, push_number, whole};
 
 /// The line of a checker's verdict.
 #[tactic(auto, unfolding(crate::specs::Verdicts::verdict_text))]

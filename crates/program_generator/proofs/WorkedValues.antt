@@ -4,13 +4,14 @@ use Rattle.avr_isa.specs.declared.form.Form.TheVariants.{Brbs, Imm, Jmp, One, Ou
 use Rattle.avr_isa.specs.declared.operation.ImmOp.TheVariants.{Ldi}
 use Rattle.avr_isa.specs.declared.operation.OneOp.TheVariants.{Dec}
 use Rattle.avr_isa.specs.Encoding.{first_word}
-use Rattle.program_generator.specs.Generated.{ending, next, words_from}
+use Rattle.base.specs.Sequences.{next_number}
+use Rattle.program_generator.specs.Generated.{ending, words_from}
 
 -- the first number behind seed 7, and the one behind the largest seed
-number_of_seed_7 : next 7 ≡ 1025555898
+number_of_seed_7 : next_number 7 ≡ 1025555898
 number_of_seed_7 = refl
 
-number_of_largest_seed : next 4294967295 ≡ 1012239698
+number_of_largest_seed : next_number 4294967295 ≡ 1012239698
 number_of_largest_seed = refl
 
 -- ADD r21,r16; INC r17; SUB r20,r20; INC r21

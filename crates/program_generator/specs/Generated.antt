@@ -1,14 +1,11 @@
 -- The test program that belongs to a seed.
-use Rattle.std.specs.Prelude.{ℕ, zero, suc, ◌+◌, ◌*◌, ◌/◌, ◌%◌, ◌^◌, ◌==◌, if◌then◌else◌, List, [], ◌∷◌, ◌++◌}
+use Rattle.std.specs.Prelude.{ℕ, zero, suc, ◌+◌, ◌/◌, ◌%◌, ◌^◌, ◌==◌, if◌then◌else◌, List, [], ◌∷◌, ◌++◌}
 use Rattle.avr_isa.specs.declared.form.Form.{Form}
 use Rattle.avr_isa.specs.declared.form.Form.TheVariants.{Two, One}
 use Rattle.avr_isa.specs.declared.operation.TwoOp.TheVariants.{Add, Eor, Sub}
 use Rattle.avr_isa.specs.declared.operation.OneOp.TheVariants.{Inc}
 use Rattle.avr_isa.specs.Encoding.{first_word}
-
--- the number that follows x
-abbrev pub next : ℕ → ℕ
-next x = (x * 1664525 + 1013904223) % 2 ^ 32
+use Rattle.base.specs.Sequences.{next_number}
 
 -- one of four instructions of the registers d and r
 abbrev pub chosen : (choice d r : ℕ) → Form
@@ -21,7 +18,7 @@ instruction_of x = chosen (x / 2 ^ 30) (16 + x / 2 ^ 24 % 8) (16 + x / 2 ^ 16 % 
 -- the words of the n numbers that follow x
 unfoldable pub words_from : (x n : ℕ) → List ℕ
 words_from x zero = []
-words_from x (suc n) = first_word (instruction_of (next x)) ∷ words_from (next x) n
+words_from x (suc n) = first_word (instruction_of (next_number x)) ∷ words_from (next_number x) n
 
 -- back to word 1 while r24, counted down, isn't 0; then r16 to r23 at PORTA, and an RJMP to its own address
 abbrev pub ending : List ℕ

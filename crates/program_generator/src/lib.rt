@@ -16,12 +16,12 @@
 
 ghost use Rattle.std.specs.Prelude.{◌≡◌, ◌+◌, ◌%◌, ◌++◌, false, IfOk, OnOk};
 ghost use Rattle.avr_isa.specs.UndefinedPairs.{is_undefined};
-ghost use Rattle.program_generator.specs.Generated.{generated, instruction_of, next, words_from};
+ghost use Rattle.program_generator.specs.Generated.{generated, instruction_of, words_from};
 
 use avr_encode::encode;
 use avr_isa::{Form, Instr, OneOp, Reg, TwoOp};
+use base::{NoMemory, next_number};
 use hex_image::Image;
-use no_memory::NoMemory;
 use std::alloc::{AllocError, Global};
 
 // How many words a program has.
@@ -67,17 +67,10 @@ fn push_chosen(words: &mut Vec<u16>, seed: u32, n: u32) -> Result<(), AllocError
 {
     let mut x = seed;
     for _ in 0..n {
-        x = next(x);
+        x = next_number(x);
         words.push(encode(&instruction(x)).first)?;
     }
     Ok(())
-}
-
-/// The number that follows `x`: x times 1,664,525 plus 1,013,904,223, modulo 2 to the 32.
-pub fn next(x: u32) -> u32
-    ensures value { result ≡ next x }
-{
-    x.wrapping_mul(1_664_525).wrapping_add(1_013_904_223)
 }
 
 // The instruction that a number chooses.

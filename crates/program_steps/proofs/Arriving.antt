@@ -32,19 +32,21 @@ came_by : (x : State) (stub : Option ℕ) (t : ℕ) → OfStub (links_at x) (mot
 came_by x None t of = tt
 came_by x (Some s) t of = record { link = of.mark.link; call = of.call; bridge = of.bridge }
 
-pub owed_came : (m : Machine) (owed : Owed) → IsGoing m → m.owed ≡ Some owed → CameThrough m.kernel.layout m.kernel.mote.flash.words owed.stub owed.target
-owed_came m owed ready owes =
-    let at = owing m _ ready (awaits_some m owed owes) in
+pub owed_came : {m : Machine} (owed : Owed) → IsGoing m → m.owed ≡ Some owed → CameThrough m.kernel.layout m.kernel.mote.flash.words owed.stub owed.target
+owed_came {m} owed ready owes =
+    let at = owing _ ready (awaits_some m owed owes) in
     came_by (state_of m) owed.stub owed.target (subst (OfStub (links_at (state_of m)) m.kernel.mote.flash.words owed.stub) (sym at.0) at.1)
 
 -- .. of a page of its part, where the address is of the program's
-stub_by : (x : State) (stub : Option ℕ) (t : ℕ) → part_number x.kernel.part.shut t ≡ number_of x.kernel.part → OfStub (links_at x) (mote_of x).flash.words stub t → IsOwnStub x.kernel.layout (mote_of x).flash.words (part_number x.kernel.part.shut) stub t
+stub_by : (x : State) (stub : Option ℕ) (t : ℕ) → part_number x.kernel.part.shut t ≡ number_of x.kernel.part → OfStub (links_at x) (mote_of x).flash.words stub t
+    → IsOwnStub x.kernel.layout (mote_of x).flash.words (part_number x.kernel.part.shut) stub t
 stub_by x None t own of = tt
 stub_by x (Some s) t own of = record { link = of.mark.link; own = of.mark.own ∙ sym own }
 
-pub owed_own : (m : Machine) (w : Awaited) → IsGoing m → (state_of m).owed ≡ Some w → part_number m.kernel.part.shut m.at ≡ number_of m.kernel.part → IsOwnStub m.kernel.layout m.kernel.mote.flash.words (part_number m.kernel.part.shut) w.stub w.target
-owed_own m w ready owes own =
-    let at = owing m w ready owes in
+pub owed_own : {m : Machine} (w : Awaited) → IsGoing m → (state_of m).owed ≡ Some w → part_number m.kernel.part.shut m.at ≡ number_of m.kernel.part
+    → IsOwnStub m.kernel.layout m.kernel.mote.flash.words (part_number m.kernel.part.shut) w.stub w.target
+owed_own {m} w ready owes own =
+    let at = owing w ready owes in
     subst (IsOwnStub m.kernel.layout m.kernel.mote.flash.words (part_number m.kernel.part.shut) w.stub) (sym at.0) (stub_by (state_of m) w.stub m.at own at.1)
 
 -- how an arrival was answered: it was refused outside the image, or by flash, or control goes on at a place
@@ -54,68 +56,74 @@ pub data Answered (layout : Layout) (old new : Store) (t : ℕ) (arrival : Arriv
   In : (place : ℕ) → arrival.place ≡ Some place → arrival.refused ≡ None → t < layout.image_words → Answered layout old new t arrival
 
 -- inside the image only flash refuses
-stopped_making : (layout : Layout) (old new : Store) (page t : ℕ) (again : Bool) (refused : Refused) → Makes layout old new page t again (Err refused) → (stop : ResolveStop) × (refused ≡ refused_by stop)
-stopped_making layout old new page t again refused (Makes.Made words place prepared done noted is) = absurd (cc)
-stopped_making layout old new page t again refused (Makes.NotMade words place prepared stop done same is) = (stop, let e : refused ≡ refused_by stop = cc in e)
+stopped_making : {layout : Layout} {old new : Store} {page t : ℕ} {again : Bool} {refused : Refused} → Makes layout old new page t again (Err refused)
+    → (stop : ResolveStop) × (refused ≡ refused_by stop)
+stopped_making (Makes.Made words place prepared done noted is) = absurd (cc)
+stopped_making {layout} {old} {new} {page} {t} {again} {refused} (Makes.NotMade words place prepared stop done same is) = (stop, let e : refused ≡ refused_by stop = cc in e)
 
-stopped_recycling : (layout : Layout) (old new : Store) (victim t : ℕ) (refused : Refused) → Recycles layout old new victim t (Err refused) → (stop : ResolveStop) × (refused ≡ refused_by stop)
-stopped_recycling layout old new victim t refused (Recycles.NotUnlinked stop done same is) = (stop, let e : refused ≡ refused_by stop = cc in e)
-stopped_recycling layout old new victim t refused (Recycles.NotErased unlinked done fails left forgotten is) =
+stopped_recycling : {layout : Layout} {old new : Store} {victim t : ℕ} {refused : Refused} → Recycles layout old new victim t (Err refused) → (stop : ResolveStop) × (refused ≡ refused_by stop)
+stopped_recycling {layout} {old} {new} {victim} {t} {refused} (Recycles.NotUnlinked stop done same is) = (stop, let e : refused ≡ refused_by stop = cc in e)
+stopped_recycling {layout} {old} {new} {victim} {t} {refused} (Recycles.NotErased unlinked done fails left forgotten is) =
     let stop : ResolveStop = record { op = unlinked.ops + 1; torn = None } in
     (stop, let e : refused ≡ refused_by stop = cc in e)
-stopped_recycling layout old new victim t refused (Recycles.Erased unlinked done fails makes) = stopped_making layout _ new victim t true refused makes
+stopped_recycling (Recycles.Erased unlinked done fails makes) = stopped_making makes
 
-answered_refused : (layout : Layout) (old new : Store) (t : ℕ) (refused : Refused) (arrival : Arrival) → arrival.refused ≡ Some refused → Arrives layout old new t (Err refused) → Answered layout old new t arrival
-answered_refused layout old new t refused arrival is (Arrives.Beyond outside same answer) =
+answered_refused : {layout : Layout} {old new : Store} {t : ℕ} {refused : Refused} (arrival : Arrival) → arrival.refused ≡ Some refused → Arrives layout old new t (Err refused)
+    → Answered layout old new t arrival
+answered_refused {layout} {old} {new} {t} {refused} arrival is (Arrives.Beyond outside same answer) =
     let e : refused ≡ record { why = refusals.Wild t; torn = None } = cc in
     Answered.Wild (is ∙ ap Some e) outside
-answered_refused layout old new t refused arrival is (Arrives.Found place inside found same answer) = absurd (cc)
-answered_refused layout old new t refused arrival is (Arrives.Free page inside missed lowest makes) =
-    let s = stopped_making layout old new page t false refused makes in
+answered_refused arrival is (Arrives.Found place inside found same answer) = absurd (cc)
+answered_refused arrival is (Arrives.Free page inside missed lowest makes) =
+    let s = stopped_making makes in
     Answered.Failed s.0 (is ∙ ap Some s.1) inside
-answered_refused layout old new t refused arrival is (Arrives.Full inside missed full recycles) =
-    let s = stopped_recycling layout old new _ t refused recycles in
+answered_refused arrival is (Arrives.Full inside missed full recycles) =
+    let s = stopped_recycling recycles in
     Answered.Failed s.0 (is ∙ ap Some s.1) inside
 
-inside_by : (layout : Layout) (old new : Store) (t : ℕ) (moved : Moved) → Arrives layout old new t (Ok moved) → t < layout.image_words
-inside_by layout old new t moved (Arrives.Beyond outside same answer) = absurd (cc)
-inside_by layout old new t moved (Arrives.Found place inside found same answer) = inside
-inside_by layout old new t moved (Arrives.Free page inside missed lowest makes) = inside
-inside_by layout old new t moved (Arrives.Full inside missed full recycles) = inside
+inside_by : {layout : Layout} {old new : Store} {t : ℕ} {moved : Moved} → Arrives layout old new t (Ok moved) → t < layout.image_words
+inside_by (Arrives.Beyond outside same answer) = absurd (cc)
+inside_by (Arrives.Found place inside found same answer) = inside
+inside_by (Arrives.Free page inside missed lowest makes) = inside
+inside_by (Arrives.Full inside missed full recycles) = inside
 
-answered_resolved : (layout : Layout) (old new : Store) (t place : ℕ) (arrival : Arrival) (stop : Option ResolveStop) → t < layout.image_words → arrival.place ≡ Some place → arrival.refused ≡ option_map refused_by stop → Answered layout old new t arrival
+answered_resolved : (layout : Layout) (old new : Store) (t place : ℕ) (arrival : Arrival) (stop : Option ResolveStop) → t < layout.image_words → arrival.place ≡ Some place
+    → arrival.refused ≡ option_map refused_by stop → Answered layout old new t arrival
 answered_resolved layout old new t place arrival None inside there none = Answered.In place there none inside
 answered_resolved layout old new t place arrival (Some stop) inside there refused = Answered.Failed stop refused inside
 
 pub answered : (layout : Layout) (old new : Store) (t : ℕ) (stub : Option ℕ) (arrival : Arrival) → ArrivesFrom layout old new t stub arrival → Answered layout old new t arrival
-answered layout old new t stub arrival (ArrivesFrom.Stopped refused arrives is) = answered_refused layout old new t refused arrival (ap (λ (a : Arrival). a.refused) is) arrives
+answered layout old new t stub arrival (ArrivesFrom.Stopped refused arrives is) = answered_refused arrival (ap (λ (a : Arrival). a.refused) is) arrives
 answered layout old new t stub arrival (ArrivesFrom.Went moved arrives none is) =
-    Answered.In moved.place (ap (λ (a : Arrival). a.place) is) (ap (λ (a : Arrival). a.refused) is) (inside_by layout old new t moved arrives)
+    Answered.In moved.place (ap (λ (a : Arrival). a.place) is) (ap (λ (a : Arrival). a.refused) is) (inside_by arrives)
 answered layout old new t stub arrival (ArrivesFrom.Resolved mid moved s arrives some stop done same is) =
-    answered_resolved layout old new t moved.place arrival stop (inside_by layout old mid t moved arrives) (ap (λ (a : Arrival). a.place) is) (ap (λ (a : Arrival). a.refused) is)
+    answered_resolved layout old new t moved.place arrival stop (inside_by arrives) (ap (λ (a : Arrival). a.place) is) (ap (λ (a : Arrival). a.refused) is)
+
+-- a page that is made is told
+pub is_made : {layout : Layout} {old new : Store} {page t : ℕ} {again : Bool} {moved : Moved} → Makes layout old new page t again (Ok moved) → moved.made ≡ true
+is_made {layout} {old} {new} {page} {t} {again} {moved} (Makes.Made words place prepared done noted is) =
+    (let e : moved ≡ record { place = place; made = true; recycled = recycled_page again page } = cc in ap (λ (m : Moved). m.made) e)
+is_made (Makes.NotMade words place prepared stop done same is) = absurd (cc)
+
+made_recycling : {layout : Layout} {old new : Store} {victim t : ℕ} {moved : Moved} → Recycles layout old new victim t (Ok moved) → moved.made ≡ true
+made_recycling (Recycles.NotUnlinked stop done same is) = absurd (cc)
+made_recycling (Recycles.NotErased unlinked done fails left forgotten is) = absurd (cc)
+made_recycling (Recycles.Erased unlinked done fails makes) = is_made makes
 
 -- an arrival that makes no page, resolves no stub and is not refused leaves flash
-unmade : (layout : Layout) (old new : Store) (page t : ℕ) (again : Bool) (moved : Moved) → Makes layout old new page t again (Ok moved) → moved.made ≡ true
-unmade layout old new page t again moved (Makes.Made words place prepared done noted is) = (let e : moved ≡ record { place = place; made = true; recycled = recycled_page again page } = cc in ap (λ (m : Moved). m.made) e)
-unmade layout old new page t again moved (Makes.NotMade words place prepared stop done same is) = absurd (cc)
-
-made_recycling : (layout : Layout) (old new : Store) (victim t : ℕ) (moved : Moved) → Recycles layout old new victim t (Ok moved) → moved.made ≡ true
-made_recycling layout old new victim t moved (Recycles.NotUnlinked stop done same is) = absurd (cc)
-made_recycling layout old new victim t moved (Recycles.NotErased unlinked done fails left forgotten is) = absurd (cc)
-made_recycling layout old new victim t moved (Recycles.Erased unlinked done fails makes) = unmade layout _ new victim t true moved makes
-
 pub same_found : (layout : Layout) (old new : Store) (t : ℕ) (moved : Moved) → Arrives layout old new t (Ok moved) → moved.made ≡ false → new.flash ≡ old.flash
 same_found layout old new t moved (Arrives.Beyond outside same answer) none = absurd (cc)
 same_found layout old new t moved (Arrives.Found place inside found same answer) none = same
-same_found layout old new t moved (Arrives.Free page inside missed lowest makes) none = absurd (let e : true ≡ false = sym (unmade layout old new page t false moved makes) ∙ none in cc)
-same_found layout old new t moved (Arrives.Full inside missed full recycles) none = absurd (let e : true ≡ false = sym (made_recycling layout old new _ t moved recycles) ∙ none in cc)
+same_found layout old new t moved (Arrives.Free page inside missed lowest makes) none = absurd (let e : true ≡ false = sym (is_made makes) ∙ none in cc)
+same_found layout old new t moved (Arrives.Full inside missed full recycles) none = absurd (let e : true ≡ false = sym (made_recycling recycles) ∙ none in cc)
 
 -- the states behind it
 placed_by : (k : Kernel) (p : Progress) (store : Store) (place : Option ℕ) (made : Bool) (refused : Option Refused) → p.end ≡ None → p.torn ≡ None
-    → state_of (whole (record k { mote = record k.mote { cpu = record k.mote.cpu { pc = unwrap_or place k.mote.cpu.pc }; sram = store.sram; flash = store.flash } }) (after_arrival (record { place = place; made = made; refused = refused }) p))
+    → state_of (whole (record k { mote = record k.mote { cpu = record k.mote.cpu { pc = unwrap_or place k.mote.cpu.pc }; sram = store.sram; flash = store.flash } })
+    (after_arrival (record { place = place; made = made; refused = refused }) p))
     ≡ arrived (state_of (whole k p)) store (record { place = place; made = made; refused = refused })
-placed_by k p store None made None going untorn = same_state _ _ _ _ _ _ _ refl going untorn
-placed_by k p store (Some place) made None going untorn = same_state _ _ _ _ _ _ _ refl going untorn
+placed_by k p store None made None going untorn = same_state _ refl going untorn
+placed_by k p store (Some place) made None going untorn = same_state _ refl going untorn
 placed_by k p store None made (Some refused) going untorn = refl
 placed_by k p store (Some place) made (Some refused) going untorn = refl
 
@@ -131,8 +139,10 @@ rest_by : (k k' : Kernel) (p : Progress) (place : Option ℕ) (made : Bool) (ref
 rest_by k k' p place made None q is = (ap (λ (x : Progress). x.at) is, ap (λ (x : Progress). x.broken) is, ap (λ (x : Progress). x.crossings) is, ap (λ (x : Progress). x.due) is)
 rest_by k k' p place made (Some refused) q is = (ap (λ (x : Progress). x.at) is, ap (λ (x : Progress). x.broken) is, ap (λ (x : Progress). x.crossings) is, ap (λ (x : Progress). x.due) is)
 
-pub has_arrived : (k : Kernel) (p q : Progress) (owed : Owed) (store : Store) (arrival : Arrival) (pc : ℕ) → p.owed ≡ Some owed → p.end ≡ None → p.torn ≡ None → IsUntaken (whole k p) → admits k.part owed.target ≡ true → CanArrive (state_of (whole k p)) owed.stub owed.target
-    → ArrivesFrom k.layout (store_of (state_of (whole k p))) store owed.target owed.stub arrival → KeptThrough k.layout (store_of (state_of (whole k p))) store owed.target arrival → KeepsParts k.layout (store_of (state_of (whole k p))) store owed.target owed.stub arrival
+pub has_arrived : (k : Kernel) (p q : Progress) (owed : Owed) (store : Store) (arrival : Arrival) (pc : ℕ) → p.owed ≡ Some owed → p.end ≡ None → p.torn ≡ None → IsUntaken (whole k p)
+    → admits k.part owed.target ≡ true → CanArrive (state_of (whole k p)) owed.stub owed.target
+    → ArrivesFrom k.layout (store_of (state_of (whole k p))) store owed.target owed.stub arrival → KeptThrough k.layout (store_of (state_of (whole k p))) store owed.target arrival
+    → KeepsParts k.layout (store_of (state_of (whole k p))) store owed.target owed.stub arrival
     → pc ≡ unwrap_or arrival.place k.mote.cpu.pc → q ≡ after_arrival arrival p
     → HasArrived (whole k p) (whole (record k { mote = record k.mote { cpu = record k.mote.cpu { pc = pc }; sram = store.sram; flash = store.flash } }) q)
 has_arrived k p q owed store arrival pc owes going untorn untaken admitted can arrives kept parts at noted =
@@ -143,12 +153,28 @@ has_arrived k p q owed store arrival pc owes going untorn untaken admitted can a
     let tried : store.flash.ops ≡ k.mote.flash.ops + ops = omega (arith, kept.tried.counted) in
     let rest = rest_by k (k' pc) p arrival.place arrival.made arrival.refused q noted in
     let state : state_of (whole (k' pc) q) ≡ arrived x store arrival =
-    ap (λ v. state_of (whole (k' v) q)) at ∙ ap (λ r. state_of (whole (k' (unwrap_or arrival.place k.mote.cpu.pc)) r)) noted ∙ placed_by k p store arrival.place arrival.made arrival.refused going untorn in
+    ap (λ v. state_of (whole (k' v) q)) at ∙ ap (λ r. state_of (whole (k' (unwrap_or arrival.place k.mote.cpu.pc)) r)) noted
+    ∙ placed_by k p store arrival.place arrival.made arrival.refused going untorn in
     record {
       target = owed.target;
       made = arrival.made;
       ops = ops;
-      makes = record { owed = record { target = owed.target; stub = owed.stub; due = p.due }; owes = awaited; going = going; untaken = untaken _ awaited; at = refl; own = admitted; can = can; store = store; arrival = arrival; arrives = arrives; makes = refl; kept = kept; tried = tried; after = state };
+      makes = record {
+        owed = record { target = owed.target; stub = owed.stub; due = p.due };
+        owes = awaited;
+        going = going;
+        untaken = untaken _ awaited;
+        at = refl;
+        own = admitted;
+        can = can;
+        store = store;
+        arrival = arrival;
+        arrives = arrives;
+        makes = refl;
+        kept = kept;
+        tried = tried;
+        after = state;
+      };
       kept = kept;
       parts = parts;
       numbers = ap (λ r. numbers_of (whole (k' pc) r)) noted ∙ numbers_by k (k' pc) p owed.target ops arrival.place arrival.made arrival.refused tried;

@@ -8,8 +8,8 @@ use Rattle.step_laws.specs.StepLaws.{Reaches}
 use Rattle.program_steps.specs.Machines.{Machine, awaited, awaits, state_of}
 use Rattle.program_steps.specs.Stepping.{settled}
 
-pub some_same : (a b : Awaited) → ◌≡◌ {A = Option Awaited} (Some a) (Some b) → a ≡ b
-some_same a b is = cc
+pub some_same : {a b : Awaited} → ◌≡◌ {A = Option Awaited} (Some a) (Some b) → a ≡ b
+some_same is = cc
 
 pub awaits_some : (m : Machine) (owed : Owed) → m.owed ≡ Some owed → (state_of m).owed ≡ Some (record { target = owed.target; stub = owed.stub; due = m.due })
 awaits_some m owed owes = ap (λ o. awaited o m.due) owes
@@ -38,10 +38,10 @@ state_settled m to = ap (λ o. record { kernel = m.kernel; owed = o; end = m.end
 -- whether an interrupt is due, where control has come to
 owing_by : (o : Option Owed) (due d : Bool) (t : ℕ) (stub : Option ℕ) → awaited o due ≡ Some (record { target = t; stub = stub; due = d }) → is_some o && due ≡ d
 owing_by None due d t stub is = absurd (cc)
-owing_by (Some owed) due d t stub is = ap (λ (w : Awaited). w.due) (some_same _ _ is)
+owing_by (Some owed) due d t stub is = ap (λ (w : Awaited). w.due) (some_same is)
 
-pub due_reached : (m : Machine) (links : Links) (t : ℕ) (d : Bool) (z : State) → state_of m ≡ z → Reaches links t d z → awaits m ≡ d
-due_reached m links t d z is (Reaches.Placed quiet free entry) =
+pub due_reached : (m : Machine) {links : Links} {t : ℕ} {d : Bool} {z : State} → state_of m ≡ z → Reaches links t d z → awaits m ≡ d
+due_reached m is (Reaches.Placed quiet free entry) =
     let none : m.owed ≡ None = free_of m (ap (λ (s : State). s.owed) is ∙ free) in
     ap (λ o. is_some o && m.due) none ∙ sym quiet
-due_reached m links t d z is (Reaches.Owing stub alone owes of) = owing_by m.owed m.due d t stub (ap (λ (s : State). s.owed) is ∙ owes)
+due_reached m {links} {t} {d} is (Reaches.Owing stub alone owes of) = owing_by m.owed m.due d t stub (ap (λ (s : State). s.owed) is ∙ owes)

@@ -1,9 +1,9 @@
 -- A machine whose mote is at reset, but for flash and COUNT: it is ready to go on, and stands for its program at reset.
-use Rattle.std.proofs.Common.{false, ◌≡◌, ℕ, ◌-◌, ◌%◌, ◌<◌, ◌≤◌, List, length, refl, sym, ap, ap₂, ◌∙◌, arith, subst, inl}
-use Rattle.std.specs.Prelude.{◌^◌, None, IfSome}
+use Rattle.std.proofs.Common.{false, ◌≡◌, ℕ, ◌%◌, ◌<◌, ◌≤◌, List, length, refl, sym, ap, ap₂, ◌∙◌, arith, inl}
+use Rattle.std.specs.Prelude.{◌^◌, None}
 use Rattle.std.proofs.Math.Nat.{zero-mod}
-use Rattle.base_laws.specs.Lists.{many}
-use Rattle.base_laws.proofs.ManyLaws.{length-many}
+use Rattle.base.specs.Lists.{many}
+use Rattle.base.proofs.ManyLaws.{length-many}
 use Rattle.sram_layout.specs.Boot.{at_boot}
 use Rattle.sram_layout.specs.Bytes.{byte_at, with_byte}
 use Rattle.sram_layout.specs.Cells.{count_cell, ring_cell, vsp_cell}
@@ -13,7 +13,6 @@ use Rattle.flash_words.specs.Memory.{loaded, new_flash, Memory, IsWhole}
 use Rattle.flash_words.specs.Layouts.{layout_of, most_image_words}
 use Rattle.flash_words.specs.declared.layout.Layout.{Layout}
 use Rattle.flash_words.proofs.LayoutLaws.{layout_right}
-use Rattle.page_index.specs.Maps.{IsPool}
 use Rattle.page_index.proofs.ChangeLaws.{new_flash_free}
 use Rattle.nat_page.specs.Faithful.{IsFaithful}
 use Rattle.nat_page.specs.Parts.{IsParted}
@@ -69,11 +68,8 @@ begun_mote flash script quantum slots = record { cpu = cpu_at_reset; sram = begu
 
 -- its machine, which has done nothing yet
 abbrev pub begun_machine : (flash : Memory) (script : Schedule) (words : ℕ) (part : Part) (quantum slots pages others : ℕ) → Machine
-begun_machine flash script words part quantum slots pages others = unstarted (record { mote = begun_mote flash script quantum slots; layout = layout_of words; part = part; quantum = quantum }) pages others
-
--- SRAM of boot with COUNT set, as far as the machine looks at it
-count_begun : (quantum : ℕ) → byte_at (begun_bytes quantum) count_cell ≡ quantum
-count_begun quantum = byte_same at_boot count_cell quantum (omega arith) (omega (arith, length-at_boot))
+begun_machine flash script words part quantum slots pages others =
+    unstarted (record { mote = begun_mote flash script quantum slots; layout = layout_of words; part = part; quantum = quantum }) pages others
 
 pointer_begun : (quantum : ℕ) → byte_at (begun_bytes quantum) vsp_cell ≡ 0
 pointer_begun quantum = byte_other at_boot count_cell vsp_cell quantum (omega arith) (omega arith) (λ e. omega arith) ∙ boot_zero vsp_cell (omega arith) (omega arith) (inl (omega arith))
@@ -95,22 +91,22 @@ same_begun flash script quantum slots = record {
 }
 
 -- where the part is right, and the links of the pool keep to the parts
-order_begun : (image : List ℕ) (flash : Memory) (script : Schedule) (part : Part) (quantum slots pages others : ℕ) → length image ≤ most_image_words → quantum < 256 → slots ≤ 251 → IsBegun image flash pages → IsRightPart part (length image)
+order_begun : {image : List ℕ} {flash : Memory} (script : Schedule) {part : Part} (quantum slots : ℕ) {pages : ℕ} (others : ℕ) → length image ≤ most_image_words → quantum < 256 → slots ≤ 251
+    → IsBegun image flash pages → IsRightPart part (length image)
     → IsParted (layout_of (length image)) image flash.words (part_number part.shut) → IsInOrder (begun_machine flash script (length image) part quantum slots pages others)
-order_begun image flash script part quantum slots pages others few low room begun right_part parted =
+order_begun {image} {flash} script {part} quantum slots {pages} others few low room begun right_part parted =
     let layout : Layout = layout_of (length image) in
     let right = layout_right (length image) few in
     let used : used_pages layout flash.words ≤ layout.pool_pages = used_pages-most layout flash.words in
     let registers : length (many 32 0) ≡ 32 = length-many 32 0 in
-    let F : List ℕ → Type 0 = λ held. IsFaithful layout held flash.words in
-    let I : List ℕ → Type 0 = λ held. IsParted layout held flash.words (part_number part.shut) in
     record {
       layout = refl;
       right = right;
-      faithful = subst F (sym begun.faithful.held) begun.faithful;
+      faithful = rw begun.faithful.held begun.faithful;
       part = right_part;
-      parted = subst I (sym begun.faithful.held) parted;
-      tables = tables_kept layout at_boot (begun_bytes quantum) flash.words flash.words (λ b from to. byte_other at_boot count_cell b quantum (omega arith) (omega arith) (λ e. omega arith)) (λ t v entry. entry) (boot_tables layout flash.words);
+      parted = rw begun.faithful.held parted;
+      tables = tables_kept layout at_boot (begun_bytes quantum) flash.words flash.words (λ b from to. byte_other at_boot count_cell b quantum (omega arith) (omega arith) (λ e. omega arith))
+          (λ t v entry. entry) (boot_tables layout flash.words);
       paged = paged_after (record (begun_mote flash script quantum slots) { sram = at_boot }) (begun_mote flash script quantum slots) (same_begun flash script quantum slots) (boot_paged slots room);
       whole = begun.whole;
       registers = omega (arith, registers);
@@ -118,20 +114,18 @@ order_begun image flash script part quantum slots pages others few low room begu
       quantum = low;
       pages = omega (arith, used, begun.used);
       ring = omega (arith, ring_begun quantum, right.pool_pages);
-      tried = record { listed = λ op from to there. absurd (omega (arith, from, to, begun.ops)); refused = λ some. absurd (some begun.refused); pool = subst (λ r. IfSome r (IsPool layout)) (sym begun.refused) tt; torn = tt };
+      tried = record { listed = λ op from to there. absurd (omega (arith, from, to, begun.ops)); refused = λ some. absurd (some begun.refused); pool = rw begun.refused tt; torn = tt };
     }
 
-none_off : (q : ℕ) → q ≡ q - 0 % q
-none_off q = let z : 0 % q ≡ 0 = zero-mod q in omega arith
-
-pub going_begun : (image : List ℕ) (flash : Memory) (script : Schedule) (part : Part) (quantum slots pages others : ℕ) → length image ≤ most_image_words → 1 ≤ quantum → quantum < 256 → slots ≤ 251 → others ≤ 10 ^ 12 → IsBegun image flash pages → IsRightPart part (length image)
+pub going_begun : (image : List ℕ) (flash : Memory) (script : Schedule) (part : Part) (quantum slots pages others : ℕ) → length image ≤ most_image_words → 1 ≤ quantum → quantum < 256 → slots ≤ 251
+    → others ≤ 10 ^ 12 → IsBegun image flash pages → IsRightPart part (length image)
     → IsParted (layout_of (length image)) image flash.words (part_number part.shut) → IsGoing (begun_machine flash script (length image) part quantum slots pages others)
 going_begun image flash script part quantum slots pages others few some low room little begun right_part parted =
-    let count = count_begun quantum in
+    let count = byte_same at_boot count_cell quantum (omega arith) (omega (arith, length-at_boot)) in
     let right = layout_right (length image) few in
     let used : used_pages (layout_of (length image)) flash.words ≤ (layout_of (length image)).pool_pages = used_pages-most (layout_of (length image)) flash.words in
     record {
-      order = order_begun image flash script part quantum slots pages others few low room begun right_part parted;
+      order = order_begun script quantum slots others few low room begun right_part parted;
       going = refl;
       untorn = refl;
       top = refl;
@@ -141,13 +135,14 @@ going_begun image flash script part quantum slots pages others few some low room
       counted = record { natural = omega arith; entries = omega arith; since = omega arith; longest = omega arith; crossed = omega arith; within = omega arith; most = omega arith };
       arrivals = record { pages = omega arith; ops = omega (arith, begun.ops); few = omega (arith, used, begun.used, right.pool_first, right.pool_below_kernel) };
       polls = omega arith;
-      exact = count ∙ none_off quantum;
+      exact = count ∙ (let z : 0 % quantum ≡ 0 = zero-mod quantum in omega arith);
       fresh = λ e. refl;
     }
 
 -- it stands for the original machine at reset, at the first word of its part
 pub flat_begun : (flash : Memory) (script : Schedule) (words : ℕ) (part : Part) (quantum slots pages others : ℕ)
-    → flat_of (begun_machine flash script words part quantum slots pages others) ≡ record { now = record (flat_at_reset script.events) { cpu = record (flat_at_reset script.events).cpu { pc = part.first } }; due = false }
+    → flat_of (begun_machine flash script words part quantum slots pages others)
+    ≡ record { now = record (flat_at_reset script.events) { cpu = record (flat_at_reset script.events).cpu { pc = part.first } }; due = false }
 flat_begun flash script words part quantum slots pages others =
     let k = (begun_machine flash script words part quantum slots pages others).kernel in
     ap (λ s. record { now = s; due = false }) (flat_same (record k { mote = record k.mote { sram = at_boot } }) k part.first 0 0 (same_begun flash script quantum slots)

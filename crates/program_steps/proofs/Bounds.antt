@@ -20,27 +20,31 @@ most_owed (Some a) n = omega arith
 most_owed None n = omega arith
 
 -- where a step begins, and where one has stopped
-pub bounded_counted : (n : Numbers) (crossings quantum count at polls : ℕ) (owed : Option Owed) → AreBounded n crossings quantum count at → AreArrivals n (most_arrivals owed n.steps) → polls ≤ n.steps + 2 ^ 32 → IsBounded n crossings quantum polls
+pub bounded_counted : (n : Numbers) (crossings quantum count at polls : ℕ) (owed : Option Owed) → AreBounded n crossings quantum count at → AreArrivals n (most_arrivals owed n.steps)
+    → polls ≤ n.steps + 2 ^ 32 → IsBounded n crossings quantum polls
 bounded_counted n crossings quantum count at polls owed counted arrivals few =
-    let a = counted.natural in
-    let b = counted.entries in
-    let most = most_owed owed n.steps in
-    let pages = arrivals.pages in
-    let ops = arrivals.ops in
-    record { moves = record { natural = omega arith; entries = omega arith; crossed = counted.crossed; since = counted.since; longest = counted.longest; most = counted.most }; polls = omega arith; pages = omega arith; ops = omega arith }
+    let moves : AreEnded n crossings quantum =
+    record {
+      natural = omega (arith, counted.natural);
+      entries = omega (arith, counted.entries);
+      crossed = counted.crossed;
+      since = counted.since;
+      longest = counted.longest;
+      most = counted.most;
+    } in
+    record { moves = moves; polls = omega arith; pages = omega (arith, most_owed owed n.steps, arrivals.pages); ops = omega (arith, most_owed owed n.steps, arrivals.ops) }
 
 -- where the next step can begin
 pub bounds_ready : (m : Machine) → IsGoing m → HasBounds m
 bounds_ready m ready = bounded_counted (numbers_of m) m.crossings m.kernel.quantum (count_in m) m.at m.kernel.mote.devices.polls m.owed ready.counted ready.arrivals ready.polls
 
-pub bounded_stop : (n n' : Numbers) (crossings quantum polls polls' : ℕ) (owed : Option Owed) → AreEnded n' crossings quantum → SameArrivals n.pages n.ops n.began n.others n' → n'.steps ≡ n.steps → AreArrivals n (most_arrivals owed n.steps)
+pub bounded_stop : {n n' : Numbers} {crossings quantum : ℕ} (polls polls' : ℕ) (owed : Option Owed) → AreEnded n' crossings quantum → SameArrivals n.pages n.ops n.began n.others n'
+    → n'.steps ≡ n.steps → AreArrivals n (most_arrivals owed n.steps)
     → polls ≤ n.steps + 2 ^ 32 → polls' ≤ max (polls + 1) 4294967295 → IsBounded n' crossings quantum polls'
-bounded_stop n n' crossings quantum polls polls' owed ended same steps arrivals low more =
-    let all = most_owed owed n.steps in
-    let made = arrivals.pages in
-    let tried = arrivals.ops in
-    let pages = same.pages in
-    let ops = same.ops in
-    let began = same.began in
-    let others = same.others in
-    record { moves = ended; polls = omega arith; pages = omega arith; ops = omega arith }
+bounded_stop {n} polls polls' owed ended same steps arrivals low more =
+    record {
+      moves = ended;
+      polls = omega arith;
+      pages = omega (arith, most_owed owed n.steps, arrivals.pages, same.pages, same.began, same.others);
+      ops = omega (arith, most_owed owed n.steps, arrivals.ops, same.ops, same.others);
+    }

@@ -1,15 +1,13 @@
 -- A machine that is going stands at an entry, so its step has its law.
 use Rattle.program_steps.proofs.Awaiting.{awaits_none, some_same}
 use Rattle.mote_devices.specs.Waking.{Timely}
-use Rattle.std.proofs.Common.{◌≡◌, ◌<◌, sym, ap, ◌∙◌, arith, subst}
-use Rattle.std.specs.Prelude.{◌^◌, min, Option, Some, None}
+use Rattle.std.proofs.Common.{◌≡◌, ◌<◌, sym, ap, ◌∙◌, arith}
+use Rattle.std.specs.Prelude.{◌^◌, min, Some, None}
 use Rattle.page_index.specs.Entries.{IsMapped}
 use Rattle.nat_page.specs.Faithful.{IsFaithful}
 use Rattle.nat_page.specs.Used.{used_pages}
 use Rattle.nat_page.proofs.FaithfulLaws.{faithful_mapped}
 use Rattle.addr_tables.specs.Tables.{IsTables}
-use Rattle.branch_bridge.specs.declared.rewriting.Torn.{Torn}
-use Rattle.branch_bridge.specs.Operating.{with_torn}
 use Rattle.kernel_entry.specs.Parts.{image_held}
 use Rattle.step_laws.specs.StepLaws.{StepLaw, Reaches, links_at}
 use Rattle.step_laws.proofs.EveryShape.{entry_laws}
@@ -28,41 +26,33 @@ by_stands m placed (Reaches.Owing stub alone owes of) = absurd (let e = sym owes
 owing_by : (m : Machine) (w : Awaited) → (state_of m).owed ≡ Some w → Reaches (links_in m) m.at (awaits m) (state_of m) → (w.target ≡ m.at) × OfStub (links_in m) m.kernel.mote.flash.words w.stub m.at
 owing_by m w owes (Reaches.Placed quiet free entry) = absurd (let e = sym owes ∙ free in cc)
 owing_by m w owes (Reaches.Owing stub alone owes' of) =
-    let same = some_same _ _ (sym owes ∙ owes') in
-    (ap (λ (v : Awaited). v.target) same, subst (λ (v : Awaited). OfStub (links_in m) m.kernel.mote.flash.words v.stub m.at) (sym same) of)
+    let same = some_same (sym owes ∙ owes') in
+    (ap (λ (v : Awaited). v.target) same, rw same of)
 
-pub owing : (m : Machine) (w : Awaited) → IsGoing m → (state_of m).owed ≡ Some w → (w.target ≡ m.at) × OfStub (links_in m) m.kernel.mote.flash.words w.stub m.at
-owing m w ready owes = owing_by m w owes ready.stands
+pub owing : {m : Machine} (w : Awaited) → IsGoing m → (state_of m).owed ≡ Some w → (w.target ≡ m.at) × OfStub (links_in m) m.kernel.mote.flash.words w.stub m.at
+owing {m} w ready owes = owing_by m w owes ready.stands
 
 -- flash holds faithful code as it is, since no page is torn
-pub faithful_going : (m : Machine) → IsGoing m → IsFaithful m.kernel.layout (image_held m.kernel) m.kernel.mote.flash.words
-faithful_going m ready =
-    let P : Option Torn → Type 0 = λ torn. IsFaithful m.kernel.layout (image_held m.kernel) (with_torn m.kernel.mote.flash.words torn) in
-    subst P ready.untorn ready.order.faithful
+pub faithful_going : {m : Machine} → IsGoing m → IsFaithful m.kernel.layout (image_held m.kernel) m.kernel.mote.flash.words
+faithful_going ready = rw ready.untorn at ready.order.faithful
 
 -- .. whose links keep to the parts
-pub parted_going : (m : Machine) → IsGoing m → IsParted m.kernel.layout (image_held m.kernel) m.kernel.mote.flash.words (part_number m.kernel.part.shut)
-parted_going m ready =
-    let P : Option Torn → Type 0 = λ torn. IsParted m.kernel.layout (image_held m.kernel) (with_torn m.kernel.mote.flash.words torn) (part_number m.kernel.part.shut) in
-    subst P ready.untorn ready.order.parted
+pub parted_going : {m : Machine} → IsGoing m → IsParted m.kernel.layout (image_held m.kernel) m.kernel.mote.flash.words (part_number m.kernel.part.shut)
+parted_going ready = rw ready.untorn at ready.order.parted
 
 -- .. and so do the tables
-pub tables_going : (m : Machine) → IsGoing m → IsTables m.kernel.layout m.kernel.mote.sram m.kernel.mote.flash.words
-tables_going m ready =
-    let P : Option Torn → Type 0 = λ torn. IsTables m.kernel.layout m.kernel.mote.sram (with_torn m.kernel.mote.flash.words torn) in
-    subst P ready.untorn ready.order.tables
+pub tables_going : {m : Machine} → IsGoing m → IsTables m.kernel.layout m.kernel.mote.sram m.kernel.mote.flash.words
+tables_going ready = rw ready.untorn at ready.order.tables
 
 -- .. and as many pages are used
-pub used_going : (m : Machine) → IsGoing m → used_pages m.kernel.layout m.kernel.mote.flash.words ≡ min m.pages m.kernel.layout.pool_pages
-used_going m ready =
-    let P : Option Torn → Type 0 = λ torn. used_pages m.kernel.layout (with_torn m.kernel.mote.flash.words torn) ≡ min m.pages m.kernel.layout.pool_pages in
-    subst P ready.untorn ready.order.pages
+pub used_going : {m : Machine} → IsGoing m → used_pages m.kernel.layout m.kernel.mote.flash.words ≡ min m.pages m.kernel.layout.pool_pages
+used_going ready = rw ready.untorn at ready.order.pages
 
-pub mapped_going : (m : Machine) → IsGoing m → IsMapped m.kernel.layout m.kernel.mote.flash.words
-mapped_going m ready = faithful_mapped m.kernel.layout (image_held m.kernel) m.kernel.mote.flash.words ready.order.right (faithful_going m ready)
+pub mapped_going : {m : Machine} → IsGoing m → IsMapped m.kernel.layout m.kernel.mote.flash.words
+mapped_going {m} ready = faithful_mapped m.kernel.layout (image_held m.kernel) m.kernel.mote.flash.words ready.order.right (faithful_going ready)
 
-pub law_of : (m : Machine) → IsGoing m → Timely m.kernel.mote.devices → m.steps < 2 ^ 50 → m.owed ≡ None → StepLaw (links_at (state_of m)) (state_of m) m.at
-law_of m ready timely few placed =
+pub law_of : {m : Machine} → IsGoing m → Timely m.kernel.mote.devices → m.steps < 2 ^ 50 → m.owed ≡ None → StepLaw (links_at (state_of m)) (state_of m) m.at
+law_of {m} ready timely few placed =
     let order = ready.order in
     let quantum = order.quantum in
     let most = ready.most in
@@ -74,8 +64,8 @@ law_of m ready timely few placed =
         bounded = record { right = order.right; whole = order.whole; most = ready.most; polls = omega arith; timely = timely };
         paged = order.paged;
       };
-      code = faithful_going m ready;
-      parted = parted_going m ready;
+      code = faithful_going ready;
+      parted = parted_going ready;
       own = (by_stands m placed ready.stands).1;
       entry = (by_stands m placed ready.stands).0;
     })

@@ -1,5 +1,5 @@
 -- What the calls leave.
-mod Awaiting
+pub mod Awaiting
 pub mod Bounds
 pub mod Told
 pub mod Taking

@@ -9,8 +9,6 @@ use Rattle.flat_machine.proofs.MachineLaws.{next_tried}
 use Rattle.kernel_entry.specs.Seen.{program as program_of}
 use Rattle.kernel_entry.specs.declared.kernel.End.{End}
 use Rattle.kernel_entry.specs.declared.kernel.Owed.{Owed}
-use Rattle.step_laws.specs.States.{State}
-use Rattle.step_laws.specs.Walks.{Walk}
 use Rattle.step_laws.specs.StepLaws.{Reaches}
 use Rattle.program_steps.specs.Machines.{Machine, state_of, flat_of}
 use Rattle.program_steps.specs.Ready.{IsGoing}
@@ -29,8 +27,8 @@ undue_untaken m is = ap (λ d. d && (has_bit m.kernel.mote.cpu.sreg interrupts &
 undue_state : (m : Machine) (d : Bool) → m.owed ≡ None → state_of (record m { due = d }) ≡ state_of m
 undue_state m d free = ap (λ o. record { kernel = m.kernel; owed = o; end = m.end; torn = m.torn }) (awaits_none (record m { due = d }) free ∙ sym (awaits_none m free))
 
-pub going_undue : (m : Machine) → IsGoing m → m.owed ≡ None → IsGoing (undue m)
-going_undue m ready free = record {
+pub going_undue : {m : Machine} → IsGoing m → m.owed ≡ None → IsGoing (undue m)
+going_undue {m} ready free = record {
   order = ready.order;
   going = ready.going;
   untorn = ready.untorn;
@@ -50,14 +48,15 @@ undue_next : (m : Machine) → is_taken (flat_of m) ≡ false → next_of (progr
 undue_next m untaken = next_tried (program_of m.kernel) (flat_of m) _ untaken refl ∙ sym (next_tried (program_of m.kernel) (flat_of (undue m)) _ refl refl)
 
 -- a step behind which the program goes on
-way_on : (m z : Machine) (line : Option Line) → is_taken (flat_of m) ≡ false → z.end ≡ None → StepWay (undue m) z line → StepWay m z line
-way_on m z line untaken going (StepWay.On ready quiet steps is) = StepWay.On ready quiet steps (undue_next m untaken ∙ is)
-way_on m z line untaken going (StepWay.Stopped stop over kept silent steps is same) = absurd (over.ended going)
+way_on : {m z : Machine} {line : Option Line} → is_taken (flat_of m) ≡ false → z.end ≡ None → StepWay (undue m) z line → StepWay m z line
+way_on {m} untaken going (StepWay.On ready quiet steps is) = StepWay.On ready quiet steps (undue_next m untaken ∙ is)
+way_on untaken going (StepWay.Stopped stop over kept silent steps is same) = absurd (over.ended going)
 
-stepped_undue : (m z : Machine) (due : Bool) (line : Option Line) → m.owed ≡ None → state_of (record z { due = due }) ≡ state_of z → StepWay m (record z { due = due }) line → HasStepped (undue m) z line → HasStepped m (record z { due = due }) line
-stepped_undue m z due line free same way step = record {
+stepped_undue : {m : Machine} (z : Machine) (due : Bool) (line : Option Line) → m.owed ≡ None → state_of (record z { due = due }) ≡ state_of z → StepWay m (record z { due = due }) line
+    → HasStepped (undue m) z line → HasStepped m (record z { due = due }) line
+stepped_undue {m} z due line free same way step = record {
   moves = step.moves;
-  goes = record { walk = subst (Walk (state_of m) step.moves) (sym same) (subst (λ (s : State). Walk s step.moves (state_of z)) (undue_state m false free) step.goes.walk); told = step.goes.told; numbers = step.goes.numbers };
+  goes = record { walk = rw same (rw (undue_state m false free) at step.goes.walk); told = step.goes.told; numbers = step.goes.numbers };
   last = step.last;
   some = step.some;
   own = step.own;
@@ -68,40 +67,47 @@ stepped_undue m z due line free same way step = record {
   way = way;
 }
 
-step_on : (m z : Machine) (line : Option Line) → m.owed ≡ None → is_taken (flat_of m) ≡ false → z.end ≡ None → HasStepped (undue m) z line → HasStepped m z line
-step_on m z line free untaken going step = stepped_undue m z z.due line free refl (way_on m z line untaken going step.way) step
+step_on : {m z : Machine} {line : Option Line} → m.owed ≡ None → is_taken (flat_of m) ≡ false → z.end ≡ None → HasStepped (undue m) z line → HasStepped m z line
+step_on {m} {z} {line} free untaken going step = stepped_undue z z.due line free refl (way_on untaken going step.way) step
 
 -- a step that stops leaves one due
-way_over : (m z : Machine) (line : Option Line) → is_taken (flat_of m) ≡ false → z.end ≢ None → StepWay (undue m) z line → StepWay m (record z { due = m.due }) line
-way_over m z line untaken ended (StepWay.On ready quiet steps is) = absurd (ended ready.going)
-way_over m z line untaken ended (StepWay.Stopped stop over kept silent steps is same) =
+way_over : {m : Machine} (z : Machine) (line : Option Line) → is_taken (flat_of m) ≡ false → z.end ≢ None → StepWay (undue m) z line → StepWay m (record z { due = m.due }) line
+way_over z line untaken ended (StepWay.On ready quiet steps is) = absurd (ended ready.going)
+way_over {m} z line untaken ended (StepWay.Stopped stop over kept silent steps is same) =
     StepWay.Stopped stop (record { order = over.order; bounded = over.bounded; ended = over.ended; exact = over.exact }) kept silent steps (undue_next m untaken ∙ is)
     (ap (λ (f : Moment). record { now = f.now; due = m.due }) same)
 
-step_over : (m z : Machine) (line : Option Line) → m.owed ≡ None → is_taken (flat_of m) ≡ false → z.end ≢ None → z.owed ≡ None → HasStepped (undue m) z line → HasStepped m (record z { due = m.due }) line
-step_over m z line free untaken ended nothing step = stepped_undue m z m.due line free (undue_state z m.due nothing) (way_over m z line untaken ended step.way) step
-
 -- several steps
 silently_undue : (n : ℕ) (m z : Machine) → m.owed ≡ None → is_taken (flat_of m) ≡ false → Silently (suc n) (undue m) z → Silently (suc n) m z
-silently_undue zero m z free untaken s = (m, s.1, refl, step_on m s.1 None free untaken s.4.ready.going (subst (λ y. HasStepped y s.1 None) (sym s.2) s.3), s.4)
+silently_undue zero m z free untaken s = (m, s.1, refl, step_on free untaken s.4.ready.going (rw s.2 s.3), s.4)
 silently_undue (suc n) m z free untaken s = (s.0, s.1, silently_undue n m s.0 free untaken s.2, s.3, s.4)
 
-done_by : (earlier : ℕ) (m z last : Machine) (count : ℕ) (line : Option Line) → m.owed ≡ None → is_taken (flat_of m) ≡ false → (count ≡ 1 → z.end ≡ None) → count ≡ earlier + 1 → Silently earlier (undue m) last → HasStepped last z line → HasDone m z count line
-done_by zero m z last count line free untaken going counted s step =
-    record { earlier = 0; last = m; counted = counted; silently = refl; step = step_on m z line free untaken (going counted) (subst (λ y. HasStepped y z line) (sym s) step) }
-done_by (suc n) m z last count line free untaken going counted s step =
+done_by : (earlier : ℕ) {m z last : Machine} (count : ℕ) {line : Option Line} → m.owed ≡ None → is_taken (flat_of m) ≡ false → (count ≡ 1 → z.end ≡ None) → count ≡ earlier + 1
+    → Silently earlier (undue m) last → HasStepped last z line → HasDone m z count line
+done_by zero {m} {z} {last} count {line} free untaken going counted s step =
+    record { earlier = 0; last = m; counted = counted; silently = refl; step = step_on free untaken (going counted) (rw s step) }
+done_by (suc n) {m} {z} {last} count free untaken going counted s step =
     record { earlier = suc n; last = last; counted = counted; silently = silently_undue n m last free untaken s; step = step }
 
-pub done_on : (m z : Machine) (count : ℕ) (line : Option Line) → m.owed ≡ None → is_taken (flat_of m) ≡ false → (count ≡ 1 → z.end ≡ None) → HasDone (undue m) z count line → HasDone m z count line
-done_on m z count line free untaken going done = done_by done.earlier m z done.last count line free untaken going done.counted done.silently done.step
+pub done_on : {m z : Machine} {count : ℕ} {line : Option Line} → m.owed ≡ None → is_taken (flat_of m) ≡ false → (count ≡ 1 → z.end ≡ None) → HasDone (undue m) z count line → HasDone m z count line
+done_on {m} {z} {count} free untaken going done = done_by done.earlier count free untaken going done.counted done.silently done.step
 
-over_by : (earlier : ℕ) (m z last : Machine) (line : Option Line) → m.owed ≡ None → is_taken (flat_of m) ≡ false → z.end ≢ None → z.owed ≡ None → 1 ≡ earlier + 1 → Silently earlier (undue m) last → HasStepped last z line → HasDone m (record z { due = m.due }) 1 line
-over_by zero m z last line free untaken ended nothing counted s step =
-    record { earlier = 0; last = m; counted = refl; silently = refl; step = step_over m z line free untaken ended nothing (subst (λ y. HasStepped y z line) (sym s) step) }
-over_by (suc n) m z last line free untaken ended nothing counted s step = absurd (omega arith)
+over_by : (earlier : ℕ) {m z last : Machine} {line : Option Line} → m.owed ≡ None → is_taken (flat_of m) ≡ false → z.end ≢ None → z.owed ≡ None → 1 ≡ earlier + 1 → Silently earlier (undue m) last
+    → HasStepped last z line → HasDone m (record z { due = m.due }) 1 line
+over_by zero {m} {z} {last} {line} free untaken ended nothing counted s step =
+    record {
+      earlier = 0;
+      last = m;
+      counted = refl;
+      silently = refl;
+      step = stepped_undue z m.due line free (undue_state z m.due nothing) (way_over z line untaken ended (subst (λ y. HasStepped y z line) (sym s) step).way)
+          (subst (λ y. HasStepped y z line) (sym s) step);
+    }
+over_by (suc n) free untaken ended nothing counted s step = absurd (omega arith)
 
-pub done_over : (m z : Machine) (count : ℕ) (line : Option Line) → m.owed ≡ None → is_taken (flat_of m) ≡ false → z.end ≢ None → z.owed ≡ None → count ≡ 1 → HasDone (undue m) z count line → HasDone m (record z { due = m.due }) 1 line
-done_over m z count line free untaken ended nothing one done = over_by done.earlier m z done.last line free untaken ended nothing (sym one ∙ done.counted) done.silently done.step
+pub done_over : {m : Machine} (z : Machine) (count : ℕ) (line : Option Line) → m.owed ≡ None → is_taken (flat_of m) ≡ false → z.end ≢ None → z.owed ≡ None → count ≡ 1 → HasDone (undue m) z count line
+    → HasDone m (record z { due = m.due }) 1 line
+done_over z count line free untaken ended nothing one done = over_by done.earlier free untaken ended nothing (sym one ∙ done.counted) done.silently done.step
 
 pub none_end : (e : Option End) → is_some e ≡ false → e ≡ None
 none_end None is = refl

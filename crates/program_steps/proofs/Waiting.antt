@@ -1,13 +1,8 @@
 -- A program that waits stands as it did, over what another one has made of flash and the tables.
-use Rattle.std.proofs.Common.{◌≡◌, ℕ, Bool, true, false, List, length, refl, sym, ap, ◌∙◌, arith, subst}
-use Rattle.std.specs.Prelude.{◌≢◌, min, Option, Some, None, IfSome}
+use Rattle.std.proofs.Common.{◌≡◌, ℕ, true, false, List, length, refl, sym, ap, ◌∙◌, arith, subst}
+use Rattle.std.specs.Prelude.{◌≢◌, Option, Some, None, IfSome}
 use Rattle.flash_words.specs.Operations.{is_listed}
 use Rattle.flash_words.specs.declared.layout.Layout.{Layout}
-use Rattle.page_index.specs.Maps.{IsPool}
-use Rattle.nat_page.specs.Faithful.{IsFaithful}
-use Rattle.nat_page.specs.Parts.{IsParted}
-use Rattle.nat_page.specs.Used.{used_pages}
-use Rattle.addr_tables.specs.Tables.{IsTables}
 use Rattle.addr_tables.proofs.TableLaws.{tables_kept}
 use Rattle.branch_bridge.specs.declared.rewriting.Torn.{Torn}
 use Rattle.branch_bridge.specs.Operating.{with_torn}
@@ -17,14 +12,13 @@ use Rattle.kernel_entry.specs.Parts.{image_held}
 use Rattle.kernel_entry.specs.Seen.{program as program_of}
 use Rattle.kernel_entry.specs.declared.kernel.End.{End}
 use Rattle.kernel_entry.specs.declared.kernel.End.TheVariants as ends
-use Rattle.step_laws.specs.Links.{part_number}
 use Rattle.step_laws.specs.States.{Awaited}
 use Rattle.step_laws.specs.StepLaws.{Reaches}
 use Rattle.step_laws.specs.Bounds.{AreBounded}
 use Rattle.step_laws.proofs.SameProgram.{flat_parts}
 use Rattle.mote_devices.specs.declared.line.Line.{Line}
 use Rattle.program_steps.specs.Machines.{Machine, state_of, numbers_of, flat_of, awaits}
-use Rattle.program_steps.specs.Ready.{HasFault, AreTried, AreArrivals, IsInOrder, IsSound, IsGoing, IsExact, most_arrivals}
+use Rattle.program_steps.specs.Ready.{HasFault, AreTried, AreArrivals, IsInOrder, IsSound, IsGoing, most_arrivals}
 use Rattle.program_steps.specs.Stepping.{links_in, StepWay, Entering}
 use Rattle.program_steps.specs.Waiting.{over, IsLeft, HasWaited}
 use Rattle.program_steps.proofs.Awaiting.{awaits_some, some_same}
@@ -44,97 +38,84 @@ never_torn (Some t) is fault told never = absurd (never told.1)
 pub untorn_left : (x : Machine) → IsLeft x → x.torn ≡ None
 untorn_left x left = never_torn x.torn (IsTorn x.kernel.layout x.kernel.mote.flash.words) (HasFault x) left.order.tried.torn left.unrefused
 
-tried_waiting : (y x : Machine) (sram : List ℕ) (others : ℕ) → HasWaited y x sram others → y.torn ≡ None → AreTried y.kernel.layout x.kernel.mote.flash y.end y.torn
-tried_waiting y x sram others waited untorn =
+tried_waiting : {y x : Machine} {sram : List ℕ} {others : ℕ} → HasWaited y x sram others → y.torn ≡ None → AreTried y.kernel.layout x.kernel.mote.flash y.end y.torn
+tried_waiting {y} {x} waited untorn =
     let none : x.kernel.mote.flash.refused ≡ None = never_refused x.kernel.mote.flash.refused (HasFault x) waited.left.order.tried.refused waited.left.unrefused in
     record {
       listed = λ op from to there. absurd (let e : true ≡ false = sym there ∙ waited.unfailing op in cc);
       refused = λ some. absurd (some none);
-      pool = subst (λ r. IfSome r (IsPool y.kernel.layout)) (sym none) tt;
-      torn = subst (λ t. IfSome t (λ torn. IsTorn y.kernel.layout x.kernel.mote.flash.words torn × HasFault y)) (sym untorn) tt;
+      pool = rw none tt;
+      torn = rw untorn tt;
     }
 
 -- flash, the tables and the heap stay in order
-pub order_waiting : (y x : Machine) (sram : List ℕ) (others : ℕ) → HasWaited y x sram others → y.torn ≡ None → IsInOrder y → IsInOrder (over y x sram others)
-order_waiting y x sram others waited untorn order =
+pub order_waiting : {y x : Machine} {sram : List ℕ} {others : ℕ} → HasWaited y x sram others → y.torn ≡ None → IsInOrder y → IsInOrder (over y x sram others)
+order_waiting {y} {x} {sram} waited untorn order =
     let there = waited.left.order in
     let words = x.kernel.mote.flash.words in
     let torn : x.torn ≡ y.torn = untorn_left x waited.left ∙ sym untorn in
     let l = y.kernel.layout in
-    let F : Layout → Option Torn → Type 0 = λ k t. IsFaithful k (image_held (record x.kernel { layout = k })) (with_torn words t) in
-    let I : Layout → Bool → Option Torn → Type 0 = λ k s t. IsParted k (image_held (record x.kernel { layout = k })) (with_torn words t) (part_number s) in
-    let T : Layout → Option Torn → Type 0 = λ k t. IsTables k x.kernel.mote.sram (with_torn words t) in
-    let U : Layout → Option Torn → Type 0 = λ k t. used_pages k (with_torn words t) ≡ min x.pages k.pool_pages in
-    let paged = outside_paged y.kernel.mote.sram sram y.kernel.mote.swap waited.own order.paged in
-    let pointer = outside_pointer y.kernel.mote.sram sram waited.own in
+    let paged = outside_paged waited.own order.paged in
+    let pointer = outside_pointer waited.own in
     record {
       layout = order.layout;
       right = order.right;
-      faithful = subst (λ k. F k y.torn) waited.layout (subst (F x.kernel.layout) torn there.faithful);
+      faithful = rw (torn, waited.layout) at there.faithful;
       part = order.part;
-      parted = subst (λ k. I k y.kernel.part.shut y.torn) waited.layout (subst (λ s. I x.kernel.layout s y.torn) waited.shut (subst (I x.kernel.layout x.kernel.part.shut) torn there.parted));
-      tables = tables_kept l x.kernel.mote.sram sram (with_torn words y.torn) (with_torn words y.torn) (λ b from to. waited.tables b (omega arith) to) (λ t v entry. entry) (subst (λ k. T k y.torn) waited.layout (subst (T x.kernel.layout) torn there.tables));
+      parted = rw (torn, waited.shut, waited.layout) at there.parted;
+      tables = tables_kept l x.kernel.mote.sram sram (with_torn words y.torn) (with_torn words y.torn) (λ b from to. waited.tables b (omega arith) to) (λ t v entry. entry)
+          (rw (torn, waited.layout) at there.tables);
       paged = paged;
       whole = there.whole;
       registers = order.registers;
       pointer = omega (arith, pointer, order.pointer);
       quantum = order.quantum;
-      pages = subst (λ k. U k y.torn) waited.layout (subst (U x.kernel.layout) torn there.pages);
+      pages = rw (torn, waited.layout) at there.pages;
       ring = omega (arith, ring_kept x.kernel.mote.sram sram waited.tables, there.ring, ap (λ (k : Layout). k.pool_pages) waited.layout);
-      tried = tried_waiting y x sram others waited untorn;
+      tried = tried_waiting waited untorn;
     }
 
 -- the arrivals are those of all programs
-arrivals_waiting : (y x : Machine) (sram : List ℕ) (others : ℕ) → HasWaited y x sram others → AreArrivals (numbers_of (over y x sram others)) (most_arrivals y.owed y.steps)
-arrivals_waiting y x sram others waited =
+arrivals_waiting : {y x : Machine} {sram : List ℕ} {others : ℕ} → HasWaited y x sram others → AreArrivals (numbers_of (over y x sram others)) (most_arrivals y.owed y.steps)
+arrivals_waiting waited =
     let arrivals = waited.left.arrivals in
-    let pages = arrivals.pages in
-    let ops = arrivals.ops in
-    let sum = waited.sum in
-    let began = waited.began in
-    let few = waited.few in
-    record { pages = omega arith; ops = omega arith; few = few }
+    record { pages = omega (arith, arrivals.pages, waited.sum, waited.began); ops = omega (arith, arrivals.ops, waited.sum); few = waited.few }
 
 -- a program that has ended stays sound
 pub sound_waiting : (y x : Machine) (sram : List ℕ) (others : ℕ) → HasWaited y x sram others → y.torn ≡ None → IsSound y → IsSound (over y x sram others)
 sound_waiting y x sram others waited untorn sound =
     let bounded = sound.bounded in
     let moves = bounded.moves in
-    let arrivals = arrivals_waiting y x sram others waited in
-    let pages = arrivals.pages in
-    let ops = arrivals.ops in
+    let arrivals = arrivals_waiting waited in
     let most = most_owed y.owed y.steps in
     record {
-      order = order_waiting y x sram others waited untorn sound.order;
+      order = order_waiting waited untorn sound.order;
       bounded = record {
         moves = record { natural = moves.natural; entries = moves.entries; crossed = moves.crossed; since = moves.since; longest = moves.longest; most = moves.most };
         polls = bounded.polls;
-        pages = omega arith;
-        ops = omega arith;
+        pages = omega (arith, most, arrivals.pages);
+        ops = omega (arith, most, arrivals.ops);
       };
       steps = sound.steps;
     }
 
--- COUNT stays exact
-pub exact_waiting : (y x : Machine) (sram : List ℕ) (others : ℕ) → HasWaited y x sram others → IsExact y → IsExact (over y x sram others)
-exact_waiting y x sram others waited exact = outside_count y.kernel.mote.sram sram waited.own ∙ exact
-
 -- an arrival that no stub asked for is owed as before
-owing_waiting : (y x : Machine) (sram : List ℕ) (others t : ℕ) → y.owed ≡ Some (record { target = t; stub = None }) → Reaches (links_in y) y.at (awaits y) (state_of y) → Reaches (links_in (over y x sram others)) y.at (awaits y) (state_of (over y x sram others))
+owing_waiting : (y x : Machine) (sram : List ℕ) (others t : ℕ) → y.owed ≡ Some (record { target = t; stub = None }) → Reaches (links_in y) y.at (awaits y) (state_of y)
+    → Reaches (links_in (over y x sram others)) y.at (awaits y) (state_of (over y x sram others))
 owing_waiting y x sram others t owes (Reaches.Placed quiet free entry) = absurd (let e = sym (awaits_some y (record { target = t; stub = None }) owes) ∙ free in cc)
 owing_waiting y x sram others t owes (Reaches.Owing stub alone owes' of) =
-    let none : None ≡ stub = ap (λ (w : Awaited). w.stub) (some_same _ _ (sym (awaits_some y (record { target = t; stub = None }) owes) ∙ owes')) in
+    let none : None ≡ stub = ap (λ (w : Awaited). w.stub) (some_same (sym (awaits_some y (record { target = t; stub = None }) owes) ∙ owes')) in
     Reaches.Owing None (λ due. refl) (owes' ∙ ap (λ s. Some (record { target = y.at; stub = s; due = awaits y })) (sym none)) tt
 
 -- a program that owes an arrival can go on
 pub going_waiting : (y x : Machine) (sram : List ℕ) (others t : ℕ) → HasWaited y x sram others → y.owed ≡ Some (record { target = t; stub = None }) → IsGoing y → IsGoing (over y x sram others)
 going_waiting y x sram others t waited owes ready =
-    let count = outside_count y.kernel.mote.sram sram waited.own in
+    let count = outside_count waited.own in
     let some = ready.some in
     let most = ready.most in
     let counted = ready.counted in
     record {
-      order = order_waiting y x sram others waited ready.untorn ready.order;
+      order = order_waiting waited ready.untorn ready.order;
       going = ready.going;
       untorn = ready.untorn;
       top = ready.top;
@@ -143,9 +124,9 @@ going_waiting y x sram others t waited owes ready =
       stands = owing_waiting y x sram others t owes ready.stands;
       counted = subst (λ c. AreBounded (numbers_of (over y x sram others)) y.crossings y.kernel.quantum c y.at) (sym count)
           (record { natural = counted.natural; entries = counted.entries; since = counted.since; longest = counted.longest; crossed = counted.crossed; within = counted.within; most = counted.most });
-      arrivals = arrivals_waiting y x sram others waited;
+      arrivals = arrivals_waiting waited;
       polls = ready.polls;
-      exact = exact_waiting y x sram others waited ready.exact;
+      exact = outside_count waited.own ∙ ready.exact;
       fresh = ready.fresh;
     }
 
@@ -153,20 +134,19 @@ going_waiting y x sram others t waited owes ready =
 pub flat_waiting : (y x : Machine) (sram : List ℕ) (others : ℕ) → HasWaited y x sram others → flat_of (over y x sram others) ≡ flat_of y
 flat_waiting y x sram others waited =
     let m = y.kernel.mote in
-    let now : (flat_of (over y x sram others)).now ≡ (flat_of y).now = flat_parts _ _ _ _ _ _ y.at y.steps y.crossings _ _ _ _ _ _ refl refl (outside_stack m.sram sram waited.own) (outside_memory m.sram sram m.swap waited.own) refl (outside_pages m.sram sram waited.own) in
+    let now : (flat_of (over y x sram others)).now ≡ (flat_of y).now =
+    flat_parts _ _ _ _ _ _ y.at y.steps y.crossings _ _ _ _ _ _ refl refl (outside_stack waited.own) (outside_memory m.swap waited.own) refl (outside_pages waited.own) in
     ap (λ s. record { now = s; due = y.due }) now
 
 pub program_waiting : (y x : Machine) (sram : List ℕ) (others : ℕ) → HasWaited y x sram others → program_of (over y x sram others).kernel ≡ program_of y.kernel
 program_waiting y x sram others waited =
-    ap (λ i. record { image = i; part = y.kernel.part; page_limit = length y.kernel.mote.swap; quantum = y.kernel.quantum }) (ap (λ l. image_held (record x.kernel { layout = l })) (sym waited.layout) ∙ waited.image)
+    ap (λ i. record { image = i; part = y.kernel.part; page_limit = length y.kernel.mote.swap; quantum = y.kernel.quantum })
+    (ap (λ l. image_held (record x.kernel { layout = l })) (sym waited.layout) ∙ waited.image)
 
 -- What the running program leaves. ------------------------------------------------------------------------
 
-not_fault : (m : Machine) → m.end ≡ None → ¬ HasFault m
-not_fault m going fault = absurd (let e : Some (ends.Flash fault.0) ≡ None = sym fault.1 ∙ going in cc)
-
 pub left_going : (m : Machine) → IsGoing m → IsLeft m
-left_going m ready = record { order = ready.order; arrivals = ready.arrivals; unrefused = not_fault m ready.going }
+left_going m ready = record { order = ready.order; arrivals = ready.arrivals; unrefused = λ fault. absurd (let e : Some (ends.Flash fault.0) ≡ None = sym fault.1 ∙ ready.going in cc) }
 
 pub left_stepped : (old new : Machine) (line : Option Line) → AreArrivals (numbers_of new) (most_arrivals new.owed new.steps) → StepWay old new line → IsLeft new
 left_stepped old new line arrivals (StepWay.On ready quiet steps is) = left_going new ready
@@ -177,7 +157,8 @@ left_stepped old new line arrivals (StepWay.Stopped stop over' is silent steps o
 }
 
 -- a program that comes to its own words, where no operation is to fail, is let in
-pub entered_own : (old new : Machine) (result : Option End) → is_own old.kernel.part old.at ≡ true → ((op : ℕ) → is_listed new.kernel.mote.flash.failing op ≡ false) → Entering old new result → (result ≡ None) × IsGoing new × (new.owed ≡ None)
+pub entered_own : (old new : Machine) (result : Option End) → is_own old.kernel.part old.at ≡ true → ((op : ℕ) → is_listed new.kernel.mote.flash.failing op ≡ false) → Entering old new result
+    → (result ≡ None) × IsGoing new × (new.owed ≡ None)
 entered_own old new result own unfailing (Entering.In ready free inside untaken) = (refl, ready, free)
 entered_own old new result own unfailing (Entering.Out over' is outside) = absurd (let e : true ≡ false = sym own ∙ outside in cc)
 entered_own old new result own unfailing (Entering.Failed op over' is inside fault) = absurd (let e : true ≡ false = sym fault.listed ∙ unfailing op in cc)

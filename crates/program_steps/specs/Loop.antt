@@ -22,7 +22,7 @@ use Rattle.step_laws.specs.Walks.{MakesPlain, MakesServe, MakesOf, MakesArrive, 
 use Rattle.nat_page.specs.Entered.{IsPlace}
 
 -- numbers that can be counted on
-pub record is_small (n : Numbers) (top : ℕ) : Type 0 where
+pub record AreSmall (n : Numbers) (top : ℕ) : Type 0 where
   pub natural : n.natural < top
   pub entries : n.entries < top
   pub since : n.since < top
@@ -67,6 +67,12 @@ pub data IsOver (x : State) : Type 0 where
   Owes : x.owed ≢ None → IsOver x
   Ended : x.end ≢ None → IsOver x
   Reached : IsPlace x.kernel.layout (mote_of x).flash.words (mote_of x).cpu.pc → IsOver x
+
+-- flash, the layout and the page that is torn stay
+pub record KeepsFlash (old new : Machine) : Type 0 where
+  pub flash : new.kernel.mote.flash ≡ old.kernel.mote.flash
+  pub layout : new.kernel.layout ≡ old.kernel.layout
+  pub torn : new.torn ≡ old.torn
 
 -- an arrival is owed, or the program has ended
 pub data IsHalted (m : Machine) : Type 0 where
@@ -149,14 +155,14 @@ pub data IsMidway (old now : Machine) (line : Option Line) : Type 0 where
 -- .. and its law and its numbers are such that moves may follow
 pub record IsUnderway (begun now : Machine) (line : Option Line) : Type 0 where
   pub law : LawOf begun
-  pub few : is_small (numbers_of begun) (2 ^ 60)
+  pub few : AreSmall (numbers_of begun) (2 ^ 60)
   pub midway : IsMidway begun now line
-  pub small : is_small (numbers_of now) (2 ^ 60 + moves_made now)
+  pub small : AreSmall (numbers_of now) (2 ^ 60 + moves_made now)
 
 -- Some of its moves were made, whichever the law gives, and it may be over.
 pub record IsFurther (begun now : Machine) (line : Option Line) : Type 0 where
   pub rest : (law : LawOf begun) → Rest begun now line law
-  pub small : is_small (numbers_of now) (2 ^ 60 + moves_made now)
+  pub small : AreSmall (numbers_of now) (2 ^ 60 + moves_made now)
 
 -- the walk of the law of a step was made
 pub record Taken (old new : Machine) (law : LawOf old) : Type 0 where

@@ -65,7 +65,17 @@ abbrev pub awaits : Machine → Bool
 awaits m = is_some m.owed && m.due
 
 abbrev pub numbers_of : Machine → Numbers
-numbers_of m = record { steps = m.steps; natural = m.natural; entries = m.entries; pages = m.pages; since = m.since; longest = m.longest; began = m.began; others = m.others; ops = m.kernel.mote.flash.ops }
+numbers_of m = record {
+  steps = m.steps;
+  natural = m.natural;
+  entries = m.entries;
+  pages = m.pages;
+  since = m.since;
+  longest = m.longest;
+  began = m.began;
+  others = m.others;
+  ops = m.kernel.mote.flash.ops;
+}
 
 abbrev pub counted_of : Machine → Counted
 counted_of m = record { state = state_of m; numbers = numbers_of m }

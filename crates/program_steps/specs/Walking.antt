@@ -1,7 +1,7 @@
 -- Serves private functions: a walk over steps that write no device line, one behind the other, and on into the next.
 use Rattle.std.specs.Prelude.{◌≡◌, ℕ, ◌+◌, ◌-◌, ◌≤◌, ◌<◌, ◌^◌, false, List, Option, None, Some}
 use Rattle.avr_exec.specs.declared.cpu.Cpu.{Cpu}
-use Rattle.avr_ops.specs.declared.micro_op.MicroOp.{MicroOp}
+use Rattle.flash_model.specs.declared.micro_ops.MicroOp.{MicroOp}
 use Rattle.flash_model.specs.DecodeCache.{AreMicroOps}
 use Rattle.mote_devices.specs.Waking.{Timely}
 use Rattle.mote_devices.specs.declared.line.Line.{Line}
@@ -21,7 +21,7 @@ use Rattle.program_steps.specs.Stepping.{HasStepped}
 use Rattle.program_steps.specs.Ready.{IsGoing}
 use Rattle.program_steps.specs.Several.{Silently}
 use Rattle.program_steps.specs.Wholes.{whole}
-use Rattle.program_steps.specs.Loop.{IsUnderway, IsFurther, HasTaken, HasReached, Halts, LawOf, is_small}
+use Rattle.program_steps.specs.Loop.{IsUnderway, IsFurther, HasTaken, HasReached, KeepsFlash, Halts, LawOf, AreSmall}
 
 -- the kernel with these registers and bytes of SRAM; and so where SREG and the pc stand apart from the registers
 abbrev pub with_core : Kernel → Cpu → List ℕ → Kernel
@@ -34,20 +34,21 @@ kernel_with k cpu sram sreg pc = record k { mote = mote_with k.mote cpu sram sre
 abbrev pub progress_at : Progress → (since steps : ℕ) → Progress
 progress_at p since steps = record p { since = since; steps = steps }
 
--- Steps that write no line lead from `start` to where the last one began, before the step of number `end` was over; and R holds of
--- that and of now.
+-- Steps that write no line lead from `start` to where the next one may begin, before the step of number `end` was over.
+pub record CanBegin (end : ℕ) (start now : Machine) : Type 0 where
+  pub begun : start.steps ≤ now.steps
+  pub silently : Silently (now.steps - start.steps) start now
+  pub ready : IsGoing now
+  pub placed : now.owed ≡ None
+  pub undue : now.due ≡ false
+  pub few : now.steps < end
+
+-- Such steps lead to where the last one began; and R holds of that and of now.
 pub record IsAlong (R : Machine → Machine → Type 0) (end : ℕ) (start now : Machine) : Type 0 where
   pub last : Machine
-  pub begun : start.steps ≤ last.steps
-  pub silently : Silently (last.steps - start.steps) start last
-  pub ready : IsGoing last
-  pub placed : last.owed ≡ None
-  pub undue : last.due ≡ false
+  pub begins : CanBegin end start last
   pub timely : Timely last.kernel.mote.devices
-  pub few : last.steps < end
-  pub flash : now.kernel.mote.flash ≡ last.kernel.mote.flash
-  pub layout : now.kernel.layout ≡ last.kernel.layout
-  pub torn : now.torn ≡ last.torn
+  pub keeps : KeepsFlash last now
   pub is : R last now
 
 -- it is underway, and has written no line
@@ -108,7 +109,7 @@ HasGone (fast.Partway place) line end start now = IsAlong (Further line) end sta
 -- a step some of whose moves were made, and whose law and numbers are such that more may follow
 pub record IsPartway (begun now : Machine) (line : Option Line) : Type 0 where
   pub law : LawOf begun
-  pub few : is_small (numbers_of begun) (2 ^ 60)
+  pub few : AreSmall (numbers_of begun) (2 ^ 60)
   pub further : IsFurther begun now line
 
 -- where control stands behind the moves that are left of a step

@@ -7,7 +7,24 @@ use Rattle.program_steps.specs.Machines.{Machine}
 -- Plain steps are counted up to the last service, and behind it. `longest` is raised at services alone, so it
 -- may be behind `since`. The line isn't part of the machine.
 abbrev pub whole : Kernel → Progress → Machine
-whole k p = record { kernel = k; at = p.at; owed = p.owed; end = p.end; due = p.due; torn = p.torn; broken = p.broken; steps = p.steps; crossings = p.crossings; natural = p.before + p.since; entries = p.entries; pages = p.pages; since = p.since; longest = max p.longest p.since; began = p.began; others = p.others }
+whole k p = record {
+  kernel = k;
+  at = p.at;
+  owed = p.owed;
+  end = p.end;
+  due = p.due;
+  torn = p.torn;
+  broken = p.broken;
+  steps = p.steps;
+  crossings = p.crossings;
+  natural = p.before + p.since;
+  entries = p.entries;
+  pages = p.pages;
+  since = p.since;
+  longest = max p.longest p.since;
+  began = p.began;
+  others = p.others;
+}
 
 -- a service begins: the plain steps up to it are counted
 abbrev pub entered : Progress → Progress

@@ -4,7 +4,7 @@ ghost use Rattle.std.specs.Prelude.{◌≡◌, ◌+◌, ◌<◌, ◌≤◌, ◌^
 ghost use Rattle.std.specs.Option.{option_or};
 ghost use Rattle.page_cursor.specs.Cursors.{IsCursor};
 ghost use Rattle.program_steps.specs.Machines.{Machine, state_of, numbers_of};
-ghost use Rattle.program_steps.specs.Loop.{CanPlain, HasPlain, CanServeNow, HasServed, IsUnderway, IsFurther, Halts, is_small, moves_made};
+ghost use Rattle.program_steps.specs.Loop.{CanPlain, HasPlain, CanServeNow, HasServed, IsUnderway, IsFurther, KeepsFlash, Halts, AreSmall, moves_made};
 ghost use Rattle.program_steps.specs.Wholes.{whole, entered};
 
 use crate::progress::Progress;
@@ -23,9 +23,7 @@ pub(crate) fn plain_steps(k: &mut Kernel, p: &mut Progress, cursor: &Cursor, pc:
     ensures more { moves_made (whole k.old p.old) < moves_made (whole k.new p.new) }
     ensures pc { result ≡ k.new.mote.cpu.pc }
     ensures free { Halts (whole k.new p.new) false }
-    ensures flash { k.new.mote.flash ≡ k.old.mote.flash }
-    ensures layout { k.new.layout ≡ k.old.layout }
-    ensures torn { p.new.torn ≡ p.old.torn }
+    ensures keeps { KeepsFlash (whole k.old p.old) (whole k.new p.new) }
     ensures steps { p.new.steps ≤ p.old.steps }
 {
     let mut pc = pc;
@@ -42,13 +40,11 @@ pub(crate) fn plain_steps(k: &mut Kernel, p: &mut Progress, cursor: &Cursor, pc:
 pub(crate) fn plain(k: &mut Kernel, p: &mut Progress, pc: u16) -> u16
     requires at { pc ≡ k.old.mote.cpu.pc }
     requires can { CanPlain (state_of (whole k.old p.old)) }
-    requires small { is_small (numbers_of (whole k.old p.old)) (2 ^ 62) }
+    requires small { AreSmall (numbers_of (whole k.old p.old)) (2 ^ 62) }
     ensures stepped { HasPlain (whole k.old p.old) (whole k.new p.new) p.old.line p.new.line }
     ensures pc { result ≡ k.new.mote.cpu.pc }
     ensures free { Halts (whole k.new p.new) false }
-    ensures flash { k.new.mote.flash ≡ k.old.mote.flash }
-    ensures layout { k.new.layout ≡ k.old.layout }
-    ensures torn { p.new.torn ≡ p.old.torn }
+    ensures keeps { KeepsFlash (whole k.old p.old) (whole k.new p.new) }
     ensures steps { p.new.steps ≡ p.old.steps }
 {
     p.since += 1;
@@ -60,15 +56,13 @@ pub(crate) fn plain(k: &mut Kernel, p: &mut Progress, pc: u16) -> u16
 pub(crate) fn service(k: &mut Kernel, p: &mut Progress) -> bool
     requires untorn { p.old.torn ≡ None }
     requires can { CanServeNow (state_of (whole k.old p.old)) }
-    requires small { is_small (numbers_of (whole k.old p.old)) (2 ^ 62) }
+    requires small { AreSmall (numbers_of (whole k.old p.old)) (2 ^ 62) }
     ensures served { HasServed (whole k.old p.old) (whole k.new p.new) p.old.line p.new.line }
     ensures over { Halts (whole k.new p.new) result }
-    ensures flash { k.new.mote.flash ≡ k.old.mote.flash }
-    ensures layout { k.new.layout ≡ k.old.layout }
-    ensures torn { p.new.torn ≡ p.old.torn }
+    ensures keeps { KeepsFlash (whole k.old p.old) (whole k.new p.new) }
     ensures steps { p.new.steps ≤ p.old.steps }
 {
-    enter(p);
+    count_entry(p);
     if resume_at_once(k) {
         return false;
     }
@@ -87,7 +81,7 @@ pub(crate) fn service(k: &mut Kernel, p: &mut Progress) -> bool
 
 /// Counts an entry of the kernel, and the plain steps up to it.
 #[inline(always)]
-fn enter(p: &mut Progress)
+fn count_entry(p: &mut Progress)
     requires entries { p.old.entries < 2 ^ 62 }
     requires natural { p.old.before + p.old.since < 2 ^ 62 }
     ensures entered { p.new ≡ entered p.old }
@@ -105,9 +99,7 @@ fn serve_in_full(k: &mut Kernel, p: &mut Progress) -> bool
     requires can { CanServeNow (state_of (whole k.old p.old)) }
     ensures served { (q : Progress) → p.old ≡ entered q → HasServed (whole k.old q) (whole k.new p.new) q.line p.new.line }
     ensures over { Halts (whole k.new p.new) result }
-    ensures flash { k.new.mote.flash ≡ k.old.mote.flash }
-    ensures layout { k.new.layout ≡ k.old.layout }
-    ensures torn { p.new.torn ≡ p.old.torn }
+    ensures keeps { KeepsFlash (whole k.old p.old) (whole k.new p.new) }
     ensures steps { p.new.steps ≤ p.old.steps }
 {
     let told = serve_told(k);

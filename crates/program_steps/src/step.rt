@@ -14,9 +14,9 @@ use crate::walk::{keeps_timely, walk};
 use kernel_entry::Kernel;
 use page_cursor::Cursor;
 
-/// Whole steps of the program, one behind the other, with the arrivals between them that leave flash as it is: at most so
-/// many, and none behind one that writes a device line, or leads to the kernel for another arrival or for good. Tells how
-/// many there were. Only the first may begin where an interrupt is due; where it stops the program, one stays due.
+/// Makes up to `most` steps, with the arrivals between them that leave flash as it is. It stops early behind a step that wrote a
+/// device line, stopped the program, or owes an arrival that may change flash, that is refused, or at which an interrupt is due.
+/// Tells how many steps there were. Only the first may begin where an interrupt is due; where it stops the program, one stays due.
 #[inline(never)]
 pub fn steps(k: &mut Kernel, p: &mut Progress, cursor: &mut Cursor, most: u64) -> u64
     requires ready { IsGoing (whole k.old p.old) }

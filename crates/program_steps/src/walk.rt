@@ -12,15 +12,14 @@ ghost use Rattle.kernel_entry.specs.declared.kernel.Kernel.{Kernel};
 ghost use Rattle.step_laws.specs.StepLaws.{crossings_over};
 ghost use Rattle.program_steps.specs.declared.progress.Progress.{Progress};
 ghost use Rattle.program_steps.specs.Machines.{Machine};
-ghost use Rattle.program_steps.specs.Loop.{HasPlain, Halts, moves_made, target, settled_at};
+ghost use Rattle.program_steps.specs.Loop.{HasPlain, KeepsFlash, Halts, moves_made, target, settled_at};
 ghost use Rattle.program_steps.specs.Walking.{IsAlong, IsPartway, Underway, Stepped, CanGo, HasGone, HasWalked, IsFarther, place_of, end_of_way, HasLeft, StandsAt, kernel_with, with_core, progress_at};
 ghost use Rattle.program_steps.specs.Wholes.{whole};
 
 use crate::moves::{plain, plain_steps, service};
 use crate::progress::Progress;
 use avr_exec::Cpu;
-use avr_ops::MicroOp;
-use flash_model::KERNEL_FIRST;
+use flash_model::{KERNEL_FIRST, MicroOp};
 use kernel_entry::Kernel;
 use mote_core::fast_move;
 use mote_devices::Devices;
@@ -232,9 +231,7 @@ fn rest_moves(k: &mut Kernel, p: &mut Progress, cursor: &mut Cursor, pc: u16) ->
     ensures stands { StandsAt result (whole k.new p.new) p.new.line }
     ensures more { moves_made (whole k.old p.old) ≤ moves_made (whole k.new p.new) }
     ensures steps { p.new.steps ≤ p.old.steps }
-    ensures flash { k.new.mote.flash ≡ k.old.mote.flash }
-    ensures layout { k.new.layout ≡ k.old.layout }
-    ensures torn { p.new.torn ≡ p.old.torn }
+    ensures keeps { KeepsFlash (whole k.old p.old) (whole k.new p.new) }
     ensures cursor { IsCursor k.new.layout k.new.mote.flash.words cursor.new }
 {
     let mut pc = pc;

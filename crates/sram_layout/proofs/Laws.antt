@@ -3,7 +3,7 @@ use Rattle.std.proofs.Common.{◌≡◌, ℕ, ◌+◌, ◌-◌, ◌*◌, ◌/◌
 use Rattle.std.specs.Prelude.{◌≢◌, slice_index}
 use Rattle.std.proofs.lemmas.List.{length-set, get_or-set_same, get_or-set_other}
 use Rattle.sram_layout.specs.Bytes.{byte_at, with_byte, data_word_at, with_word, block_at, with_block}
-use Rattle.base_laws.proofs.Pieces.{length-replaced, replaced_in, replaced_below, replaced_above, part_replaced, same_part, part_item, length-part}
+use Rattle.base.proofs.Pieces.{length-replaced, replaced_in, replaced_below, replaced_above, part_replaced, same_part, part_item, length-part}
 
 -- the length stays
 pub length-with_byte : (m : List ℕ) (a v : ℕ) → length (with_byte m a v) ≡ length m
@@ -59,7 +59,8 @@ word_out_of_byte m a b v from from' apart apart' =
 pub word_other : (m : List ℕ) (a b w : ℕ) → 256 ≤ a → 256 ≤ b → (b + 2 ≤ a) ⊎ (a + 2 ≤ b) → data_word_at (with_word m a w) b ≡ data_word_at m b
 unfolding with_word
 word_other m a b w from from' apart =
-    word_out_of_byte (with_byte m a (w % 256)) (a + 1) b (w / 256) (omega arith) from' (λ same. omega arith) (λ same. omega arith) ∙ word_out_of_byte m a b (w % 256) from from' (λ same. omega arith) (λ same. omega arith)
+    word_out_of_byte (with_byte m a (w % 256)) (a + 1) b (w / 256) (omega arith) from' (λ same. omega arith) (λ same. omega arith)
+    ∙ word_out_of_byte m a b (w % 256) from from' (λ same. omega arith) (λ same. omega arith)
 
 -- a byte inside a block that was written
 pub byte_in_block : (m new : List ℕ) (a b : ℕ) → length new ≡ 256 → 256 ≤ a → a ≤ length m → a ≤ b → b < a + 256 → byte_at (with_block m a new) b ≡ slice_index new (b - a)
@@ -70,10 +71,8 @@ byte_in_block m new a b fits from inside above below =
 -- a byte outside
 pub byte_out_of_block : (m new : List ℕ) (a b : ℕ) → length new ≡ 256 → 256 ≤ a → a ≤ length m → 256 ≤ b → (b < a) ⊎ (a + 256 ≤ b) → byte_at (with_block m a new) b ≡ byte_at m b
 unfolding with_block byte_at
-byte_out_of_block m new a b fits from inside from' outside = elim outside [
-  | inl below ↦ replaced_below (a - 256) 256 (b - 256) m new fits (omega arith) (omega arith)
-  | inr above ↦ replaced_above (a - 256) 256 (b - 256) m new fits (omega arith) (omega arith)
-]
+byte_out_of_block m new a b fits from inside from' (inl below) = replaced_below (a - 256) 256 (b - 256) m new fits (omega arith) (omega arith)
+byte_out_of_block m new a b fits from inside from' (inr above) = replaced_above (a - 256) 256 (b - 256) m new fits (omega arith) (omega arith)
 
 -- a block that was written
 pub block_same : (m new : List ℕ) (a : ℕ) → length new ≡ 256 → 256 ≤ a → a ≤ length m → block_at (with_block m a new) a ≡ new

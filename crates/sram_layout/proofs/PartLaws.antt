@@ -2,7 +2,7 @@
 use Rattle.std.proofs.Common.{◌≡◌, ℕ, ◌+◌, ◌-◌, ◌<◌, ◌≤◌, ◌⊎◌, List, length, get_or, arith, ap, ◌∙◌, refl, inl, inr}
 use Rattle.std.specs.Prelude.{slice_index}
 use Rattle.sram_layout.specs.Bytes.{byte_at, part_at, with_part}
-use Rattle.base_laws.proofs.Pieces.{length-replaced, replaced_in, replaced_below, replaced_above, part_item, length-part}
+use Rattle.base.proofs.Pieces.{length-replaced, replaced_in, replaced_below, replaced_above, part_item, length-part}
 
 -- the length stays
 pub length-with_part : (m new : List ℕ) (a : ℕ) → 256 ≤ a → a + length new ≤ 256 + length m → length (with_part m a new) ≡ length m
@@ -18,10 +18,8 @@ byte_in_part m new a b from inside above below =
 -- a byte outside
 pub byte_out_of_part : (m new : List ℕ) (a b : ℕ) → 256 ≤ a → a + length new ≤ 256 + length m → 256 ≤ b → (b < a) ⊎ (a + length new ≤ b) → byte_at (with_part m a new) b ≡ byte_at m b
 unfolding with_part byte_at
-byte_out_of_part m new a b from inside from' outside = elim outside [
-  | inl below ↦ replaced_below (a - 256) (length new) (b - 256) m new refl (omega arith) (omega arith)
-  | inr above ↦ replaced_above (a - 256) (length new) (b - 256) m new refl (omega arith) (omega arith)
-]
+byte_out_of_part m new a b from inside from' (inl below) = replaced_below (a - 256) (length new) (b - 256) m new refl (omega arith) (omega arith)
+byte_out_of_part m new a b from inside from' (inr above) = replaced_above (a - 256) (length new) (b - 256) m new refl (omega arith) (omega arith)
 
 -- byte k of a part
 pub part_byte : (m : List ℕ) (a n k : ℕ) → 256 ≤ a → k < n → slice_index (part_at m a n) k ≡ byte_at m (a + k)

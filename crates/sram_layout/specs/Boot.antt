@@ -1,7 +1,7 @@
 -- SRAM as the kernel starts.
 use Rattle.std.specs.Prelude.{ℕ, List}
 use Rattle.sram_layout.specs.Bytes.{byte_count, with_block}
-use Rattle.base_laws.specs.Lists.{many}
+use Rattle.base.specs.Lists.{many}
 use Rattle.sram_layout.specs.Cells.{no_slot, slot_cell}
 
 -- all bytes are 0, but the 256 bytes of the swap map are 0xFF: no page has a slot

@@ -2,7 +2,7 @@
 
 ghost use Rattle.std.specs.Prelude.{◌≡◌, ◌+◌, ◌-◌, ◌/◌, ◌%◌, ◌≤◌, ◌<◌, length};
 ghost use Rattle.sram_layout.specs.Bytes.{byte_count, byte_at, with_byte, data_word_at, with_word, block_at, with_block, part_at, with_part};
-ghost use Rattle.base_laws.specs.Lists.{many};
+ghost use Rattle.base.specs.Lists.{many};
 ghost use Rattle.sram_layout.specs.Cells.{no_slot};
 ghost use Rattle.sram_layout.specs.Boot.{at_boot};
 ghost use Rattle.sram_layout.specs.Regions.{whole_sram, is_within};
@@ -145,14 +145,14 @@ impl Sram {
     }
 }
 
-#[tactic(auto, unfolding(base_laws::specs::Lists::many))]
+#[tactic(auto, unfolding(base::specs::Lists::many))]
 fn zeros() -> [u8; 4096]
     ensures value { result ≡ many byte_count 0 }
 {
     [0; 4096]
 }
 
-#[tactic(auto, unfolding(base_laws::specs::Lists::many))]
+#[tactic(auto, unfolding(base::specs::Lists::many))]
 fn no_slots() -> [u8; 256]
     ensures value { result ≡ many 256 no_slot }
 {

@@ -1,6 +1,7 @@
--- A call of the kernel, behind any plain moves of a template, and what follows from the service's answer.
-use Rattle.std.proofs.Common.{[], ℕ, ◌≡◌, ◌+◌, ◌<◌, ◌≤◌, ◌∷◌, ◌++◌, ◌∙◌, true, false, List, length, refl, sym, ap, arith, subst, inl}
-use Rattle.std.specs.Prelude.{◌≢◌, ◌&&◌, ◌==◌, Option, Some, None, not}
+-- A call of the kernel, behind any plain moves of a template or as the template itself, and what follows from the service's
+-- answer.
+use Rattle.std.proofs.Common.{[], ℕ, ◌≡◌, ◌+◌, ◌<◌, ◌≤◌, ◌∷◌, ◌++◌, ◌∙◌, true, false, List, length, refl, sym, ap, arith, inl}
+use Rattle.std.specs.Prelude.{◌≢◌, ◌&&◌, Option, Some, None, not}
 use Rattle.avr_isa.specs.Crossing.{is_crossing}
 use Rattle.avr_isa.specs.declared.form.Form.{Form}
 use Rattle.avr_flags.specs.Status.{has_bit, interrupts}
@@ -12,12 +13,12 @@ use Rattle.avr_exec.specs.Spaces.{Outcome, Went as WentOn, Stopped as StoppedOn}
 use Rattle.sram_layout.specs.Bytes.{byte_at, with_word}
 use Rattle.sram_layout.specs.Cells.{vsp_cell, count_cell}
 use Rattle.sram_layout.specs.Regions.{KeepsRegion, place_cells}
-use Rattle.sram_layout.proofs.Laws.{byte_out_of_word, length-with_word, word_low}
+use Rattle.sram_layout.proofs.Laws.{length-with_word, word_low}
 use Rattle.heap_frames.specs.Paged.{IsPaged}
 use Rattle.heap_frames.proofs.SamePagingLaws.{same_paging_word, paged_same}
-use Rattle.nat_template.specs.declared.shapes.TemplateShape.TheVariants.{SelfJump}
-use Rattle.nat_template.specs.Shapes.{shape_of_form}
-use Rattle.page_draft.specs.Runs.{shape_at}
+use Rattle.nat_template.specs.declared.shapes.TemplateShape.TheVariants.{SelfJump, Fault}
+use Rattle.nat_template.specs.Shapes.{shape_of_form, shape_of}
+use Rattle.page_draft.specs.Runs.{shape_at, template_at}
 use Rattle.flat_machine.specs.FlatMachine.{Goes, Stops, tried, next_size, jumps_to_itself, word_asked, if_foreign}
 use Rattle.mote_devices.specs.State.{stored, rampz_address}
 use Rattle.avr_exec.specs.Asks.{ask_of}
@@ -33,29 +34,36 @@ use Rattle.kernel_entry.specs.declared.kernel.Kernel.{Kernel}
 use Rattle.kernel_entry.specs.declared.kernel.Stop.{Stop}
 use Rattle.kernel_entry.specs.declared.kernel.Stop.TheVariants.{Read}
 use Rattle.kernel_entry.specs.declared.kernel.Served.TheVariants as answers
+use Rattle.nat_template.specs.declared.shapes.TemplateShape.{TemplateShape}
+use Rattle.kernel_entry.proofs.LeftLaws.{word_kept}
 use Rattle.step_laws.specs.States.{State, mote_of, with_mote}
 use Rattle.step_laws.specs.Settings.{IsIdle, IsRunning, IsSetting}
 use Rattle.step_laws.specs.Links.{Links}
-use Rattle.step_laws.specs.Walks.{MakesServe, WalkFrom}
+use Rattle.step_laws.specs.Walks.{MakesServe, WalkFrom, MakesPlain}
 use Rattle.step_laws.proofs.Ways.{from_on}
-use Rattle.step_laws.proofs.PlainRuns.{plains_counted, plains_served, plains_stopped, plains_lines, plains_reset}
+use Rattle.step_laws.proofs.PlainLaw.{keeps_mote, plain_on, serve_on, stop_on, plains_are, plains_lines, works_law}
 use Rattle.step_laws.proofs.Onward.{Onward}
-use Rattle.step_laws.specs.Moves.{Serve, Within, line_before, lines_of, plains}
-use Rattle.step_laws.proofs.SameProgram.{flat_same, paged_after}
-use Rattle.step_laws.specs.StepLaws.{Reaches, StepLaw, Outcome as StepOutcome, crossings_over}
-use Rattle.step_laws.proofs.KernelCalls.{pushed, serve_by}
+use Rattle.step_laws.specs.Moves.{Serve, lines_of, plains}
+use Rattle.step_laws.specs.StepLaws.{StepLaw, Outcome as StepOutcome, crossings_over}
+use Rattle.step_laws.proofs.KernelCalls.{pushed, serve_by, call_move, called_of, pushed_address, pushed_kept, pushed_size, running_at}
 use Rattle.avr_exec.proofs.RegistersKept.{exec_kept}
 use Rattle.step_laws.proofs.Executed.{end_stop, flat_put, kept_of, executed_at, returned, executed_is}
 use Rattle.kernel_entry.specs.declared.kernel.End.TheVariants as ends
-use Rattle.step_laws.specs.Numbers.{moved}
 use Rattle.avr_decode.specs.Program.{instruction_at}
 use Rattle.kernel_entry.specs.Parts.{core_of, descriptor, memory_of, rested, return_address, image_held}
 use Rattle.kernel_entry.specs.Services.{foreign_in, foreign_read, read_by, accessed, resumed, resumed_by, served, stop_of, if_instruction, execution, execution_by}
-use Rattle.kernel_entry.specs.Conditions.{CanExecute, CanServe, shape_behind}
+use Rattle.kernel_entry.specs.Conditions.{CanExecute, CanServe, shape_behind, CanCount}
 use Rattle.preempt_count.specs.Counting.{count_over}
 use Rattle.kernel_entry.specs.declared.kernel.Served.{Served}
 use Rattle.kernel_entry.specs.Seen.{program, state_at, end_of}
-use Rattle.kernel_entry.proofs.ShapeLaws.{jumps_on}
+use Rattle.kernel_entry.proofs.ShapeLaws.{jumps_on, runs_or_faults}
+use Rattle.flash_words.specs.Pages.{word_at as flash_word}
+use Rattle.nat_template.specs.declared.piece.Piece.{Piece}
+use Rattle.nat_template.specs.declared.piece.Piece.TheVariants.{Fixed}
+use Rattle.nat_template.specs.Stubs.{call_word}
+use Rattle.page_draft.specs.Standing.{size}
+use Rattle.step_laws.proofs.Stretches.{template_here, stretch_of, size_three}
+use Rattle.step_laws.proofs.SameProgram.{SameProgram, flat_same, paged_after, same_sram}
 
 -- The state at the entry of a service, where SRAM was `ram` before the call, which left the address `back`; and its kernel.
 abbrev pub asked_of : State → List ℕ → (back entry : ℕ) → State
@@ -63,6 +71,10 @@ asked_of x ram back entry = with_mote x (record (mote_of x) { cpu = record (mote
 
 abbrev pub asked : State → List ℕ → (back entry : ℕ) → Kernel
 asked x ram back entry = (asked_of x ram back entry).kernel
+
+-- nothing is owed, and the program goes on
+abbrev pub resting : Kernel → State
+resting k = record { kernel = k; owed = None; end = None; torn = None }
 
 -- MEM, or another service, is asked there for the instruction at a, and the program sees what it saw.
 pub record IsAsked (x : State) (a : ℕ) (ram : List ℕ) (back entry : ℕ) : Type 0 where
@@ -84,24 +96,26 @@ pub record Asked (x : State) (a : ℕ) (ram : List ℕ) (back entry more : ℕ) 
 
 -- the service stops the program
 pub stop_asked : (links : Links) (x : State) (a v : ℕ) (ram : List ℕ) (back entry more : ℕ) (stop : Stop) → IsSetting links x a v → Asked x a ram back entry more → CanServe (asked x ram back entry)
-    → served (asked x ram back entry) ≡ (answers.Stopped stop, rested (asked x ram back entry)) → ((s c : ℕ) → tried (program x.kernel) (state_at x.kernel a s c) ≡ Stops (end_of stop)) → StepLaw links x a
+    → served (asked x ram back entry) ≡ (answers.Stopped stop, rested (asked x ram back entry)) → ((s c : ℕ) → tried (program x.kernel) (state_at x.kernel a s c) ≡ Stops (end_of stop))
+    → StepLaw links x a
 unfolding lines_of
 stop_asked links x a v ram back entry more stop s c can is stops =
     let kc = asked x ram back entry in
     let y = asked_of x ram back entry in
     let ms = Serve None true ∷ [] in
+    let plain = plains_are more in
     let z : State = record { kernel = rested kc; owed = None; end = Some (ends.Stopped stop); torn = None } in
-    let served' : MakesServe y None true z = serve_by y (answers.Stopped stop, rested kc) (record { free = s.ready.running.free; going = s.ready.running.going; room = s.ready.running.room }) can is in
+    let served' : MakesServe y None true z = serve_by y (answers.Stopped stop, rested kc) (running_at x _ _ s.ready.running) can is in
     record {
       end = z;
       first = None;
       rest = plains more ++ ms;
       line = None;
       walk = from_on x y z true None (plains more) ms c.walk (z, served', refl);
-      few = let few = c.few in omega (arith, plains_counted more ms);
-      serves = omega (arith, plains_served more ms);
+      few = let few = c.few in omega (arith, plain_on (plains more) ms, plain.0);
+      serves = omega (arith, serve_on (plains more) ms, plain.1);
       lines = plains_lines more ms;
-      keeps = record { layout = refl; part = refl; quantum = refl; flash = refl; slots = refl; paged = c.state.can.paged; registers = refl; top = refl; polls = omega arith; pointer = c.state.pointer; tables = c.state.tables };
+      keeps = keeps_mote x z refl refl refl c.state.can.paged refl refl (omega arith) c.state.tables c.state.pointer;
       outcome = StepOutcome.Stopped stop (record {
         ended = refl;
         free = refl;
@@ -109,13 +123,19 @@ stop_asked links x a v ram back entry more stop s c can is stops =
         original = stops;
         same = c.state.sees a;
         count = c.state.count;
-        stopped = plains_stopped more ms;
+        stopped = omega (arith, stop_on (plains more) ms, plain.2);
       });
     }
 
 -- what the service executes, as the original's step
 abbrev pub RunsOn : Kernel → ℕ → Form → Type 0
 RunsOn k a form = jumps_to_itself a form && not (has_bit k.mote.cpu.sreg interrupts) ≡ false
+
+-- this is the instruction at a
+pub record IsRun (k : Kernel) (a : ℕ) (form : Form) : Type 0 where
+  pub is : instruction_at (image_held k) a ≡ Some form
+  pub runs : is_executed form ≡ true
+  pub apart : RunsOn k a form
 
 -- and it reads no word of the program that it may not
 abbrev pub Owns : Kernel → ℕ → Form → Type 0
@@ -151,36 +171,41 @@ pub accessed_foreign : (k : Kernel) (a w : ℕ) → descriptor k ≡ a → forei
 unfolding accessed
 accessed_foreign k a w behind is = ap (read_by k) is ∙ ap (λ at. (answers.Stopped (Read at w), rested k)) behind
 
-pub read_stops_asked : (x : State) (a w : ℕ) (ram : List ℕ) (back entry more : ℕ) (form : Form) → Asked x a ram back entry more → instruction_at (image_held x.kernel) a ≡ Some form → is_executed form ≡ true
+pub read_stops_asked : (x : State) (a w : ℕ) (ram : List ℕ) (back entry more : ℕ) (form : Form) → Asked x a ram back entry more → instruction_at (image_held x.kernel) a ≡ Some form
+    → is_executed form ≡ true
     → foreign_at (asked x ram back entry) a form ≡ Some w → (s c : ℕ) → tried (program x.kernel) (state_at x.kernel a s c) ≡ Stops (end_of (Read a w))
 read_stops_asked x a w ram back entry more form c is runs foreign n m =
     let kc = asked x ram back entry in
     ap (tried (program x.kernel)) (sym (c.state.sees a n m)) ∙ tried_read (program kc) (state_at kc a n m) form w is runs foreign
 
-pub bus_stops_asked : (x : State) (a : ℕ) (ram : List ℕ) (back entry more : ℕ) (form : Form) (stop : BusStop) → Asked x a ram back entry more → instruction_at (image_held x.kernel) a ≡ Some form → is_executed form ≡ true → Owns (asked x ram back entry) a form → RunsOn x.kernel a form
+pub bus_stops_asked : (x : State) (a : ℕ) (ram : List ℕ) (back entry more : ℕ) (form : Form) (stop : BusStop) → Asked x a ram back entry more → IsRun x.kernel a form
+    → Owns (asked x ram back entry) a form
     → executed_at (asked x ram back entry) a form ≡ StoppedOn stop → (s c : ℕ) → tried (program x.kernel) (state_at x.kernel a s c) ≡ Stops (end_of (stop_of a stop))
-bus_stops_asked x a ram back entry more form stop c is runs own apart stopped n m =
+bus_stops_asked x a ram back entry more form stop c f own stopped n m =
     let kc = asked x ram back entry in
     ap (tried (program x.kernel)) (sym (c.state.sees a n m))
-    ∙ guarded_stops _ _ (memory_of kc) (core_of kc a) n m form stop c.state.can.paged refl is runs own apart stopped
+    ∙ guarded_stops _ _ (memory_of kc) (core_of kc a) n m form stop c.state.can.paged refl f.is f.runs own f.apart stopped
     ∙ ap Stops (sym (end_stop a stop))
 
 -- the service goes on behind the descriptor
-pub resume_asked : (links : Links) (x : State) (a v : ℕ) (ram : List ℕ) (back entry more to : ℕ) (form : Form) (cpu : Cpu) (g : Guarded) → IsSetting links x a v → Asked x a ram back entry more → CanServe (asked x ram back entry)
-    → instruction_at (image_held x.kernel) a ≡ Some form → is_executed form ≡ true → Owns (asked x ram back entry) a form → RunsOn x.kernel a form → executed_at (asked x ram back entry) a form ≡ WentOn cpu g → cpu.pc ≡ to
+pub resume_asked : (links : Links) (x : State) (a v : ℕ) (ram : List ℕ) (back entry more to : ℕ) (form : Form) (cpu : Cpu) (g : Guarded) → IsSetting links x a v → Asked x a ram back entry more
+    → CanServe (asked x ram back entry)
+    → IsRun x.kernel a form → Owns (asked x ram back entry) a form → executed_at (asked x ram back entry) a form ≡ WentOn cpu g → cpu.pc ≡ to
     → served (asked x ram back entry) ≡ (answers.Resume g.line, returned (asked x ram back entry) cpu g (wrapping_sum back 1))
-    → (let z : State = record { kernel = returned (asked x ram back entry) cpu g (wrapping_sum back 1); owed = None; end = None; torn = None } in IsRunning z → IsIdle z.kernel → Onward 0 links z to (count_over x.kernel.quantum a to (byte_at (mote_of z).sram count_cell)) (is_crossing a to)) → StepLaw links x a
+    → (let z = resting (returned (asked x ram back entry) cpu g (wrapping_sum back 1)) in IsRunning z → IsIdle z.kernel
+    → Onward 0 links z to (count_over x.kernel.quantum a to (byte_at (mote_of z).sram count_cell)) (is_crossing a to)) → StepLaw links x a
 unfolding lines_of
-resume_asked links x a v ram back entry more to form cpu g s c can is runs own apart went pc answer ahead =
+resume_asked links x a v ram back entry more to form cpu g s c can f own went pc answer ahead =
     let k = x.kernel in
     let image = image_held k in
     let kc = asked x ram back entry in
     let y = asked_of x ram back entry in
     let kept : IsKept (memory_of kc) g = kept_of kc a form cpu g c.state.can.paged went in
     let size' : length g.sram ≡ 4096 = kept.paged.sized.sram in
-    let z1 : State = record { kernel = returned kc cpu g (wrapping_sum back 1); owed = None; end = None; torn = None } in
-    let served' : MakesServe y g.line false z1 = serve_by y (answers.Resume g.line, returned kc cpu g (wrapping_sum back 1)) (record { free = s.ready.running.free; going = s.ready.running.going; room = s.ready.running.room }) can answer in
-    let count' : byte_at (with_word g.sram vsp_cell cpu.sp) count_cell ≡ byte_at k.mote.sram count_cell = byte_out_of_word g.sram vsp_cell count_cell cpu.sp (omega arith) (omega arith) (λ e. omega arith) (λ e. omega arith) ∙ kept.cells count_cell (omega arith) (omega arith) ∙ c.state.count in
+    let z1 = resting (returned kc cpu g (wrapping_sum back 1)) in
+    let served' : MakesServe y g.line false z1 = serve_by y (answers.Resume g.line, returned kc cpu g (wrapping_sum back 1)) (running_at x _ _ s.ready.running) can answer in
+    let count' : byte_at (with_word g.sram vsp_cell cpu.sp) count_cell ≡ byte_at k.mote.sram count_cell = word_kept g.sram cpu.sp count_cell (omega arith)
+    ∙ kept.cells count_cell (omega arith) (omega arith) ∙ c.state.count in
     let pointer' : byte_at (with_word g.sram vsp_cell cpu.sp) vsp_cell < 256 = omega (arith, word_low g.sram vsp_cell cpu.sp (omega arith) (omega arith)) in
     let some = s.ready.idle.some in
     let most = s.ready.idle.most in
@@ -189,49 +214,25 @@ resume_asked links x a v ram back entry more to form cpu g s c can is runs own a
     let registers = s.ready.idle.registers in
     let fit' : IsIdle z1.kernel = record { registers = omega arith; size = length-with_word g.sram vsp_cell cpu.sp ∙ size'; pointer = pointer'; top = refl; some = omega arith; most = omega arith } in
     let on = ahead (record { free = refl; going = refl; room = let polls = kept.polls in omega arith }) fit' in
-    let end = on.end in
-    let paged'' : IsPaged z1.kernel.mote.sram z1.kernel.mote.swap = paged_same g.sram (with_word g.sram vsp_cell cpu.sp) g.swap (same_paging_word g.sram vsp_cell cpu.sp (omega arith) (inl (omega arith))) kept.paged in
-    let P : ℕ → Type 0 = λ to. (s c : ℕ) → tried (program k) (state_at k a s c) ≡ Goes g.line (state_at end.kernel to (s + 1) (crossings_over a to c)) in
-    let goes : P cpu.pc = λ n m.
-    ap (tried (program k)) (sym (c.state.sees a n m))
-    ∙ guarded_goes _ _ (memory_of kc) g (core_of kc a) cpu n m form c.state.can.paged refl is runs own apart went
-    ∙ ap (Goes g.line) (sym (flat_put kc cpu g (wrapping_sum back 1) (n + 1) (crossings_over a cpu.pc m) size') ∙ sym (flat_same z1.kernel end.kernel cpu.pc (n + 1) (crossings_over a cpu.pc m) on.left.same)) in
-    let ms = Serve g.line false ∷ on.moves in
-    record {
-      end = end;
-      first = None;
-      rest = plains more ++ ms;
-      line = g.line;
-      walk = from_on x y end true None (plains more) ms c.walk (z1, served', on.walk);
-      few = let few = on.few in let few' = c.few in omega (arith, plains_counted more ms);
-      serves = let serves = on.serves in omega (arith, plains_served more ms);
-      lines = plains_lines more ms ∙ ap (line_before g.line) on.silent;
-      keeps = record {
-        layout = on.left.layout;
-        part = on.left.part;
-        quantum = on.left.quantum;
-        flash = on.left.same.flash;
-        slots = ap length on.left.same.swap ∙ kept.slots;
-        paged = paged_after z1.kernel.mote end.kernel.mote on.left.same paged'';
-        registers = ap length on.left.same.registers ∙ registers';
-        top = on.left.same.top;
-        polls = let polls = kept.polls in omega (arith, ap (λ d. d.polls) on.left.same.devices);
-        tables = λ b low high. on.left.same.bytes b (omega arith) (λ e. omega arith) (λ e. omega arith) ∙ byte_out_of_word g.sram vsp_cell b cpu.sp (omega arith) (omega arith) (λ e. omega arith) (λ e. omega arith) ∙ kept.tables b (omega arith) high ∙ c.state.tables b low high;
-        pointer = omega (arith, on.left.same.bytes vsp_cell (omega arith) (λ e. omega arith) (λ e. omega arith));
-      };
-      outcome = StepOutcome.Went to (record {
-        wakes = false;
-        silent = λ e. absurd (cc);
-        fresh = λ e. absurd (cc);
-        polls = λ e. let polls = kept.polls in omega (arith, ap (λ d. d.polls) on.left.same.devices);
-        going = on.left.going;
-        original = subst P pc goes;
-        reaches = subst (λ c. Reaches links to (is_crossing a to && (c == 1)) on.end) count' on.left.reaches;
-        count = on.left.count ∙ ap (λ c. count_over k.quantum a to c) count';
-        unstopped = plains_stopped more ms ∙ on.goes;
-        reset = plains_reset x (is_crossing a to) more ms (λ crosses one n. on.reset crosses (count' ∙ one) (moved (Within (Serve g.line false)) n));
-      });
-    }
+    let paged'' : IsPaged z1.kernel.mote.sram z1.kernel.mote.swap =
+    paged_same g.sram (with_word g.sram vsp_cell cpu.sp) g.swap (same_paging_word g.sram vsp_cell cpu.sp (omega arith) (inl (omega arith))) kept.paged in
+    let goes : (n m : ℕ) → tried (program k) (state_at k a n m) ≡ Goes g.line (state_at z1.kernel cpu.pc (n + 1) (crossings_over a cpu.pc m)) = λ n m.
+    ap (tried (program k)) (sym (c.state.sees a n m)) ∙ guarded_goes _ _ (memory_of kc) g (core_of kc a) cpu n m form c.state.can.paged refl f.is f.runs own f.apart went
+    ∙ ap (Goes g.line) (sym (flat_put kc cpu g (wrapping_sum back 1) (n + 1) (crossings_over a cpu.pc m) size')) in
+    let ms = Serve g.line false ∷ [] in
+    let plain = plains_are more in
+    let polls = kept.polls in
+    works_law links x a to g.line None (plains more ++ ms) z1 0 (let few = c.few in omega (arith, plain_on (plains more) ms, plain.0)) (record {
+      walk = from_on x y z1 true None (plains more) ms c.walk (z1, served', refl);
+      told = plains_lines more ms;
+      stops = omega (arith, stop_on (plains more) ms, plain.2);
+      serves = omega (arith, serve_on (plains more) ms, plain.1);
+      keeps = keeps_mote x z1 refl refl kept.slots paged'' registers' refl (omega arith)
+          (λ b low high. word_kept g.sram cpu.sp b (omega arith) ∙ kept.tables b (omega arith) high ∙ c.state.tables b low high) pointer';
+      polls = polls;
+      count = count';
+      goes = rw pc at goes;
+    }) on
 
 -- the answer, by the outcome of the execution
 abbrev pub resumed_to : Kernel → (back a : ℕ) → Outcome Guarded Cpu → Served × Kernel
@@ -252,3 +253,94 @@ resumed_is k back a form o address behind is done =
 
 pub runs_on : (k : Kernel) (a : ℕ) (form : Form) → shape_of_form a form ≢ SelfJump → RunsOn k a form
 runs_on k a form apart = ap (λ b. b && not (has_bit k.mote.cpu.sreg interrupts)) (jumps_on a form apart)
+
+pub run_there : (k : Kernel) (a : ℕ) (form : Form) (shape : TemplateShape) → instruction_at (image_held k) a ≡ Some form → shape_of_form a form ≡ shape → shape ≢ Fault → shape ≢ SelfJump
+    → IsRun k a form
+run_there k a form shape is same fault self = record { is = is; runs = runs_or_faults a form (λ e. fault (sym same ∙ e)); apart = runs_on k a form (λ e. self (sym same ∙ e)) }
+
+-- the mote after the CALL at an entry's place
+abbrev pub called : State → ℕ → ℕ → Kernel
+called x v entry = (called_of x v entry).kernel
+
+pub record Called (x : State) (a v entry : ℕ) : Type 0 where
+  pub low : v + 3 ≤ 0xF000
+  pub word : flash_word (mote_of x).flash.words (v + 2) ≡ a
+  pub first : MakesPlain x true None (called_of x v entry)
+  pub back : return_address (called x v entry) ≡ v + 2
+  pub behind : descriptor (called x v entry) ≡ a
+  pub same : SameProgram (mote_of x) (rested (called x v entry)).mote
+  pub shape : shape_behind (called x v entry) ≡ shape_at (image_held x.kernel) a
+  pub can : CanExecute (called x v entry)
+  pub counts : CanCount (called x v entry)
+
+pub called_by : (links : Links) (x : State) (a v entry : ℕ) (rest : List Piece) → IsSetting links x a v → template_at (image_held x.kernel) a ≡ Fixed call_word ∷ Fixed entry ∷ Fixed a ∷ rest
+    → Called x a v entry
+called_by links x a v entry rest s template =
+    let k = x.kernel in
+    let image = image_held k in
+    let words = (mote_of x).flash.words in
+    let three : size (template_at image a) ≡ 3 + size rest = ap size template ∙ size_three call_word entry a rest in
+    let row = stretch_of links k.layout image words a v s.ready.bounded.right s.code in
+    let low = row.low in
+    let stands = (template_here links x a v _ s template).stands in
+    let second : v + 1 + 1 ≡ v + 2 = omega arith in
+    let word' : flash_word words (v + 2) ≡ a = ap (flash_word words) (sym second) ∙ stands.1.1.0 in
+    let kc = called x v entry in
+    let ram = k.mote.sram in
+    let same : SameProgram k.mote (rested kc).mote = same_sram k.mote 0x011F entry (pushed ram (v + 2)) refl (pushed_size ram (v + 2)) (λ b apart. pushed_kept ram (v + 2) b (omega arith)) in
+    let count = pushed_kept ram (v + 2) count_cell (omega arith) in
+    let back : return_address kc ≡ v + 2 = pushed_address ram (v + 2) s.ready.idle.size in
+    let behind : descriptor kc ≡ a = ap (flash_word words) back ∙ word' in
+    let some = s.ready.idle.some in
+    let most = s.ready.bounded.most in
+    let polls = s.ready.bounded.polls in
+    record {
+      low = omega arith;
+      word = word';
+      first = call_move x v entry true s.ready.running s.at s.code.pool (omega arith) s.code.place stands.0 stands.1.0 s.ready.idle.top;
+      back = back;
+      behind = behind;
+      same = same;
+      shape = ap (λ w. shape_of w (instruction_at image w)) behind;
+      can = record { paged = paged_after k.mote (rested kc).mote same s.ready.paged; room = omega arith };
+      counts = record { some = omega arith; most = omega arith };
+    }
+
+-- so it is asked at the first move
+pub asked_by : (x : State) (a v entry : ℕ) → IsIdle x.kernel → Called x a v entry → Asked x a (mote_of x).sram (v + 2) entry 0
+asked_by x a v entry idle c =
+    let ram = (mote_of x).sram in
+    let low = c.low in
+    let pointer = idle.pointer in
+    record {
+      few = omega arith;
+      walk = (called_of x v entry, c.first, refl);
+      state = record {
+        low = omega arith;
+        address = c.back;
+        behind = c.behind;
+        sees = λ pc s n. flat_same x.kernel (rested (called x v entry)) pc s n c.same;
+        count = pushed_kept ram (v + 2) count_cell (omega arith);
+        pointer = omega (arith, pushed_kept ram (v + 2) vsp_cell (omega arith));
+        tables = λ b low high. pushed_kept ram (v + 2) b (omega arith);
+        shape = c.shape;
+        can = c.can;
+      };
+    }
+
+pub stop_law : (links : Links) (x : State) (a v entry : ℕ) (stop : Stop) → IsSetting links x a v → Called x a v entry → CanServe (called x v entry)
+    → served (called x v entry) ≡ (answers.Stopped stop, rested (called x v entry)) → ((s c : ℕ) → tried (program x.kernel) (state_at x.kernel a s c) ≡ Stops (end_of stop)) → StepLaw links x a
+stop_law links x a v entry stop s c can is stops = stop_asked links x a v (mote_of x).sram (v + 2) entry 0 stop s (asked_by x a v entry s.ready.idle c) can is stops
+
+pub bus_stops : (links : Links) (x : State) (a v entry : ℕ) (form : Form) (stop : BusStop) → IsSetting links x a v → Called x a v entry → IsRun x.kernel a form → reads_program form ≡ false
+    → executed_at (called x v entry) a form ≡ StoppedOn stop → (s c : ℕ) → tried (program x.kernel) (state_at x.kernel a s c) ≡ Stops (end_of (stop_of a stop))
+bus_stops links x a v entry form stop s c f reads stopped =
+    bus_stops_asked x a (mote_of x).sram (v + 2) entry 0 form stop (asked_by x a v entry s.ready.idle c) f (owns_by (called x v entry) a form reads) stopped
+
+pub resume_law : (links : Links) (x : State) (a v entry to : ℕ) (form : Form) (cpu : Cpu) (g : Guarded) → IsSetting links x a v → Called x a v entry → CanServe (called x v entry)
+    → IsRun x.kernel a form → reads_program form ≡ false → executed_at (called x v entry) a form ≡ WentOn cpu g → cpu.pc ≡ to
+    → served (called x v entry) ≡ (answers.Resume g.line, returned (called x v entry) cpu g (wrapping_sum (v + 2) 1))
+    → (let z = resting (returned (called x v entry) cpu g (wrapping_sum (v + 2) 1)) in IsRunning z → IsIdle z.kernel
+    → Onward 0 links z to (count_over x.kernel.quantum a to (byte_at (mote_of z).sram count_cell)) (is_crossing a to)) → StepLaw links x a
+resume_law links x a v entry to form cpu g s c can f reads went pc answer ahead =
+    resume_asked links x a v (mote_of x).sram (v + 2) entry 0 to form cpu g s (asked_by x a v entry s.ready.idle c) can f (owns_by (called x v entry) a form reads) went pc answer ahead

@@ -22,7 +22,8 @@ is_one count is = grind (arith, nat_tests)
 pub not_one : (count : ℕ) → (count == 1) ≡ false → count ≢ 1
 not_one count more = grind (arith, nat_tests)
 
-within_by : (quantum count from to since since' : ℕ) (b c : Bool) → is_crossing from to ≡ b → (count == 1) ≡ c → 1 ≤ count → count ≤ quantum → since ≤ 40 * (128 * (quantum - count) + from % 128) → since' ≤ since + 40
+within_by : (quantum count from to since since' : ℕ) (b c : Bool) → is_crossing from to ≡ b → (count == 1) ≡ c → 1 ≤ count → count ≤ quantum → since ≤ 40 * (128 * (quantum - count) + from % 128)
+    → since' ≤ since + 40
     → (b ≡ true → count ≡ 1 → since' ≡ 0) → since' ≤ 40 * (128 * (quantum - (if b then (if c then quantum else count - 1) else count)) + to % 128)
 within_by quantum count from to since since' false c goes test some most within few reset =
     let up = not_crossing from to goes in
@@ -34,7 +35,8 @@ within_by quantum count from to since since' true true crosses test some most wi
 within_by quantum count from to since since' true false crosses test some most within few reset = let apart : count ≢ 1 = not_one count test in omega arith
 
 -- a step keeps the bound on plain steps since the last service
-within_on : (quantum count from to since since' : ℕ) → 1 ≤ count → count ≤ quantum → since ≤ 40 * (128 * (quantum - count) + from % 128) → since' ≤ since + 40 → (is_crossing from to ≡ true → count ≡ 1 → since' ≡ 0)
+within_on : (quantum count from to since since' : ℕ) → 1 ≤ count → count ≤ quantum → since ≤ 40 * (128 * (quantum - count) + from % 128) → since' ≤ since + 40
+    → (is_crossing from to ≡ true → count ≡ 1 → since' ≡ 0)
     → since' ≤ 40 * (128 * (quantum - count_over quantum from to count) + to % 128)
 within_on quantum count from to since since' some most within few reset = within_by quantum count from to since since' (is_crossing from to) (count == 1) refl refl some most within few reset
 
@@ -55,20 +57,16 @@ record Rises (n after : Numbers) (quantum : ℕ) : Type 0 where
   longest : after.longest ≤ after.natural
   most : after.longest ≤ bound_per_crossing * quantum
 
-rises : (x : State) (a crossings : ℕ) (law : StepLaw (links_at x) x a) (n : Numbers) → 1 ≤ count_of x.kernel → count_of x.kernel ≤ x.kernel.quantum → AreBounded n crossings x.kernel.quantum (count_of x.kernel) a
+rises : (x : State) (a crossings : ℕ) (law : StepLaw (links_at x) x a) (n : Numbers) → 1 ≤ count_of x.kernel → count_of x.kernel ≤ x.kernel.quantum
+    → AreBounded n crossings x.kernel.quantum (count_of x.kernel) a
     → Rises n (numbered (moves_of law) n) x.kernel.quantum
 unfolding moved
 rises x a crossings law n some most before =
     let first = moved (Begin law.first) n in
     let after = numbered (map Within law.rest) first in
-    let few = law.few in
-    let serves = law.serves in
     let natural = natural_is law.rest first in
     let entries = entries_is law.rest first in
     let since = since_bound law.rest first in
-    let low = before.since in
-    let below = before.longest in
-    let top = before.most in
     let reach = longest_on x.kernel.quantum (count_of x.kernel) a n.since some most before.within in
     record {
       natural = omega arith;
@@ -85,7 +83,6 @@ keep_bounds x a to crossings law n some most before goes =
     let quantum = x.kernel.quantum in
     let first = moved (Begin law.first) n in
     let after = numbered (moves_of law) n in
-    let none = goes.unstopped in
     let steps : after.steps ≡ n.steps + 1 = steps_is law.rest first ∙ omega arith in
     let up = rises x a crossings law n some most before in
     let within = within_on quantum (count_of x.kernel) a to n.since after.since some most before.within up.reach (λ crosses one. goes.reset crosses one first) in
@@ -104,7 +101,6 @@ pub end_bounds : EndBounds
 unfolding moved
 end_bounds x a crossings stop law n some most before stops =
     let first = moved (Begin law.first) n in
-    let one = stops.stopped in
     let steps : (numbered (moves_of law) n).steps ≡ n.steps = steps_is law.rest first ∙ omega arith in
     let up = rises x a crossings law n some most before in
     let bounds : AreEnded (numbered (moves_of law) n) crossings x.kernel.quantum = record {

@@ -1,7 +1,10 @@
 -- The instruction at an address of the image, by its words.
-use Rattle.std.proofs.Common.{ℕ, ◌≡◌, ◌<◌, ◌≤◌, length, arith, Bool, true, false, refl, sym}
+use Rattle.std.proofs.Common.{ℕ, ◌≡◌, ◌<◌, ◌≤◌, length, arith, Bool, true, false, refl, sym, ap, ◌+◌, List}
 use Rattle.std.specs.Prelude.{◌≢◌, if◌then◌else◌, Option, Some, None}
 use Rattle.avr_isa.specs.Image.{word}
+use Rattle.avr_decode.specs.Program.{instruction_at}
+use Rattle.nat_template.specs.Templates.{template_by}
+use Rattle.page_draft.specs.Runs.{shape_at, size_at, template_at}
 use Rattle.avr_isa.specs.declared.form.Form.{Form}
 use Rattle.nat_template.specs.declared.shapes.TemplateShape.{TemplateShape}
 use Rattle.nat_template.specs.declared.shapes.TemplateShape.TheVariants.{Fault}
@@ -29,3 +32,7 @@ form_of_shape shape a (Some f) is apart = (f, refl, is)
 pub one_by : (b : Bool) → ◌≡◌ {A = ℕ} (if b then 2 else 1) 1 → b ≡ false
 one_by true is = absurd (omega arith)
 one_by false is = refl
+
+-- the template of an address, by its shape
+pub by_shape : (image : List ℕ) (a : ℕ) (shape : TemplateShape) → shape_at image a ≡ shape → template_at image a ≡ template_by shape a (word image a) (instruction_at image a) (size_at image (a + 1))
+by_shape image a shape is = ap (λ s. template_by s a (word image a) (instruction_at image a) (size_at image (a + 1))) is

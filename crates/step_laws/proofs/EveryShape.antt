@@ -8,12 +8,10 @@ use Rattle.step_laws.specs.Settings.{IsSetting, IsAtEntry}
 use Rattle.step_laws.specs.StepLaws.{ShapeLaw, HasShapeLaws, HasEntryLaws, links_at}
 use Rattle.step_laws.proofs.JumpLaw.{jump_law}
 use Rattle.step_laws.proofs.NativeLaw.{native_law}
-use Rattle.step_laws.proofs.BranchLaw.{branch_law}
-use Rattle.step_laws.proofs.SkipLaw.{skip_law}
+use Rattle.step_laws.proofs.SkipLaw.{branch_law, skip_law}
 use Rattle.step_laws.proofs.MemLaw.{mem_law}
 use Rattle.step_laws.proofs.CallLaw.{call_law}
-use Rattle.step_laws.proofs.GoneLaw.{ret_law, ind_law}
-use Rattle.step_laws.proofs.SelfLaw.{self_law}
+use Rattle.step_laws.proofs.GoneLaw.{ret_law, ind_law, self_law}
 use Rattle.step_laws.proofs.FaultLaw.{fault_law}
 use Rattle.nat_page.specs.Entered.{StandsIn}
 use Rattle.nat_page.specs.Parts.{IsByPage, EntersPart, IsLinkFrom}
@@ -49,9 +47,12 @@ entry_setting x a here = record {
   at = refl;
   code = (
       let part = part_number x.kernel.part.shut in
-      let Stands : ℕ → Type 0 = λ q. StandsIn (EntersPart x.kernel.layout (mote_of x).flash.words part q) (IsLinkFrom x.kernel.layout (image_held x.kernel) (mote_of x).flash.words part q) x.kernel.layout (image_held x.kernel) (mote_of x).flash.words a (mote_of x).cpu.pc in
+      let Stands : ℕ → Type 0 =
+      λ q. StandsIn (EntersPart x.kernel.layout (mote_of x).flash.words part q) (IsLinkFrom x.kernel.layout (image_held x.kernel) (mote_of x).flash.words part q) x.kernel.layout
+      (image_held x.kernel) (mote_of x).flash.words a (mote_of x).cpu.pc in
       subst Stands here.own
-      (parted_stands x.kernel.layout (image_held x.kernel) (mote_of x).flash.words part a (mote_of x).cpu.pc (part_by_page x.kernel.part.shut) here.ready.bounded.right here.code here.parted here.entry));
+      (parted_stands x.kernel.layout (image_held x.kernel) (mote_of x).flash.words part a (mote_of x).cpu.pc
+      (part_by_page x.kernel.part.shut) here.ready.bounded.right here.code here.parted here.entry));
 }
 
 pub entry_laws : HasEntryLaws

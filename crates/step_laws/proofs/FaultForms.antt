@@ -28,7 +28,7 @@ use Rattle.mem_guard.specs.Guarded.{Guarded, guarded_calls, load, store, modify,
 use Rattle.mem_guard.proofs.GuardedStep.{guarded_stops}
 use Rattle.flat_machine.proofs.MachineLaws.{tried_illegal, tried_spm}
 use Rattle.kernel_entry.specs.declared.kernel.Kernel.{Kernel}
-use Rattle.step_laws.proofs.SkipForms.{low_field}
+use Rattle.step_laws.proofs.SkipLaw.{low_field}
 use Rattle.avr_decode.specs.Program.{instruction_at}
 use Rattle.kernel_entry.specs.Parts.{core_of, memory_of, image_held}
 use Rattle.kernel_entry.specs.Services.{fault_of, is_sleep}
@@ -72,12 +72,15 @@ fault_io false false is = (refl, refl)
 abbrev Tries : Kernel → ℕ → Option Form → Type 0
 Tries k a form = is_sleep form ≡ false → (s c : ℕ) → tried (program k) (state_at k a s c) ≡ Stops (end_of (fault_of a form))
 
-io_stops : (k : Kernel) (a b : ℕ) (form : Form) → IsPaged k.mote.sram k.mote.swap → instruction_at (image_held k) a ≡ Some form → is_executed form ≡ true → reads_program form ≡ false → jumps_to_itself a form ≡ false
+io_stops : (k : Kernel) (a b : ℕ) (form : Form) → IsPaged k.mote.sram k.mote.swap → instruction_at (image_held k) a ≡ Some form → is_executed form ≡ true → reads_program form ≡ false
+    → jumps_to_itself a form ≡ false
     → answer_of guarded_calls (memory_of k) (ask_of form (core_of k a)) ≡ StoppedOn (bus.Io b) → (s c : ℕ) → tried (program k) (state_at k a s c) ≡ Stops (flat_ends.Io a b)
 io_stops k a b form paged is runs reads apart stopped s c =
-    guarded_stops _ _ (memory_of k) (core_of k a) s c form (bus.Io b) paged refl is runs (owns_by k a form reads) (ap (λ b. b && not (has_bit k.mote.cpu.sreg interrupts)) apart) (exec_stopped guarded_calls form (core_of k a) (memory_of k) (next_size (image_held k) a) (bus.Io b) stopped)
+    guarded_stops _ _ (memory_of k) (core_of k a) s c form (bus.Io b) paged refl is runs (owns_by k a form reads) (ap (λ b. b && not (has_bit k.mote.cpu.sreg interrupts)) apart)
+    (exec_stopped guarded_calls form (core_of k a) (memory_of k) (next_size (image_held k) a) (bus.Io b) stopped)
 
-some_tries : (k : Kernel) (a : ℕ) (form : Form) → IsPaged k.mote.sram k.mote.swap → instruction_at (image_held k) a ≡ Some form → IsTrue (is_valid form) → shape_of_form a form ≡ Fault → Tries k a (Some form)
+some_tries : (k : Kernel) (a : ℕ) (form : Form) → IsPaged k.mote.sram k.mote.swap → instruction_at (image_held k) a ≡ Some form → IsTrue (is_valid form) → shape_of_form a form ≡ Fault
+    → Tries k a (Some form)
 unfolding shape_of_form is_executed ask_of is_valid fields_in_range is_undefined
 some_tries k a forms.Sleep paged is valid shape = λ none. absurd (cc)
 some_tries k a forms.Spm paged is valid shape = λ none s c. tried_spm (program k) (state_at k a s c) is
@@ -90,19 +93,24 @@ some_tries k a (forms.OutIo q r) paged is valid shape =
     let low = six_right r q valid in
     λ none. io_stops k a (q + 0x20) (forms.OutIo q r) paged is refl refl refl (refused_store (memory_of k) (q + 0x20) (register (core_of k a) r) (omega arith) (own_write q _ refl low t.0 t.1) t.1)
 some_tries k a (forms.Cbi q b) paged is valid shape =
-    λ none. io_stops k a (q + 0x20) (forms.Cbi q b) paged is refl refl refl (refused_modify (memory_of k) (q + 0x20) (2 ^ b) 0 (chosen_other (can_modify (io_address q)) Native Fault Fault (λ e. cc) shape))
+    λ none. io_stops k a (q + 0x20) (forms.Cbi q b) paged is refl refl refl
+    (refused_modify (memory_of k) (q + 0x20) (2 ^ b) 0 (chosen_other (can_modify (io_address q)) Native Fault Fault (λ e. cc) shape))
 some_tries k a (forms.Sbi q b) paged is valid shape =
-    λ none. io_stops k a (q + 0x20) (forms.Sbi q b) paged is refl refl refl (refused_modify (memory_of k) (q + 0x20) 0 (2 ^ b) (chosen_other (can_modify (io_address q)) Native Fault Fault (λ e. cc) shape))
+    λ none. io_stops k a (q + 0x20) (forms.Sbi q b) paged is refl refl refl
+    (refused_modify (memory_of k) (q + 0x20) 0 (2 ^ b) (chosen_other (can_modify (io_address q)) Native Fault Fault (λ e. cc) shape))
 some_tries k a (forms.Sbic q b) paged is valid shape =
     let low = low_left q b valid in
-    λ none. io_stops k a (q + 0x20) (forms.Sbic q b) paged is refl refl refl (refused_load (memory_of k) (q + 0x20) (omega arith) (low_field q _ valid) (chosen_other (can_read (io_address q)) Skip Fault Fault (λ e. cc) shape))
+    λ none. io_stops k a (q + 0x20) (forms.Sbic q b) paged is refl refl refl
+    (refused_load (memory_of k) (q + 0x20) (omega arith) (low_field q _ valid) (chosen_other (can_read (io_address q)) Skip Fault Fault (λ e. cc) shape))
 some_tries k a (forms.Sbis q b) paged is valid shape =
     let low = low_left q b valid in
-    λ none. io_stops k a (q + 0x20) (forms.Sbis q b) paged is refl refl refl (refused_load (memory_of k) (q + 0x20) (omega arith) (low_field q _ valid) (chosen_other (can_read (io_address q)) Skip Fault Fault (λ e. cc) shape))
+    λ none. io_stops k a (q + 0x20) (forms.Sbis q b) paged is refl refl refl
+    (refused_load (memory_of k) (q + 0x20) (omega arith) (low_field q _ valid) (chosen_other (can_read (io_address q)) Skip Fault Fault (λ e. cc) shape))
 some_tries k a (forms.Rjmp d) paged is valid shape = absurd (not_chosen (relative a d == a) SelfJump Jump Fault (λ e. cc) (λ e. cc) shape)
 some_tries k a (forms.Jmp t) paged is valid shape = absurd (not_chosen (t == a) SelfJump Jump Fault (λ e. cc) (λ e. cc) shape)
 some_tries k a _ paged is valid shape = absurd (cc)
 
-pub fault_tries : (k : Kernel) (a : ℕ) (form : Option Form) → IsPaged k.mote.sram k.mote.swap → instruction_at (image_held k) a ≡ form → ((f : Form) → form ≡ Some f → IsTrue (is_valid f)) → shape_of a form ≡ Fault → Tries k a form
+pub fault_tries : (k : Kernel) (a : ℕ) (form : Option Form) → IsPaged k.mote.sram k.mote.swap → instruction_at (image_held k) a ≡ form → ((f : Form) → form ≡ Some f → IsTrue (is_valid f))
+    → shape_of a form ≡ Fault → Tries k a form
 fault_tries k a None paged is valid shape = λ none s c. tried_illegal (program k) (state_at k a s c) is
 fault_tries k a (Some form) paged is valid shape = some_tries k a form paged is (valid form refl) shape

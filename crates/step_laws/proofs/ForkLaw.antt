@@ -1,5 +1,5 @@
 -- A word that stands, RJMP over a stub, and the stub: what branches and skips share.
-use Rattle.std.proofs.Common.{ℕ, ◌≡◌, ◌+◌, ◌<◌, ◌≤◌, ◌∷◌, ◌∙◌, Bool, true, false, cond, List, refl, sym, ap, arith, subst}
+use Rattle.std.proofs.Common.{[], ℕ, ◌≡◌, ◌+◌, ◌<◌, ◌≤◌, ◌∷◌, ◌∙◌, Bool, true, false, cond, refl, ap, arith, subst}
 use Rattle.std.specs.Prelude.{if◌then◌else◌, Some, None, pos}
 use Rattle.avr_isa.specs.Crossing.{is_crossing}
 use Rattle.avr_isa.specs.UndefinedPairs.{is_undefined}
@@ -13,26 +13,25 @@ use Rattle.mote_core.specs.declared.mote.Mote.{Mote}
 use Rattle.mote_core.specs.declared.mote.Plain.TheVariants as shown
 use Rattle.mote_core.specs.Conditions.{can_step}
 use Rattle.mote_core.specs.Step.{form_at as form_at_mote, IsPlainStep}
-use Rattle.nat_template.specs.declared.piece.Piece.{Piece}
 use Rattle.nat_template.specs.declared.piece.Piece.TheVariants.{Fixed}
 use Rattle.nat_template.specs.Stubs.{stub}
 use Rattle.nat_template.specs.Templates.{passing}
 use Rattle.nat_template.proofs.Sizes.{stub_size, stub_bound}
-use Rattle.page_draft.specs.Standing.{Stands, size}
+use Rattle.page_draft.specs.Standing.{size}
 use Rattle.page_draft.specs.Runs.{shape_at, template_at, next_of, is_closed}
 use Rattle.page_draft.proofs.PieceLaws.{size-cons}
 use Rattle.flat_machine.specs.FlatMachine.{Goes, tried}
 use Rattle.kernel_entry.specs.declared.kernel.Kernel.{Kernel}
+use Rattle.step_laws.proofs.Stretches.{template_here, IsStretch, stretch_behind}
 use Rattle.step_laws.specs.Links.{Links}
-use Rattle.step_laws.specs.States.{InPool, State, mote_of, with_mote}
+use Rattle.step_laws.specs.States.{State, mote_of, with_mote}
 use Rattle.step_laws.specs.Settings.{IsIdle, IsRunning, IsSetting}
-use Rattle.step_laws.proofs.Stretches.{IsStretch, stretch_of, stretch_behind}
 use Rattle.step_laws.specs.Walks.{MakesPlain}
 use Rattle.step_laws.proofs.Onward.{Onward, by_way, onward}
 use Rattle.step_laws.specs.Moves.{Plain, Within, lines_of}
 use Rattle.step_laws.specs.StepLaws.{StepLaw, crossings_over}
 use Rattle.step_laws.specs.Numbers.{moved}
-use Rattle.step_laws.proofs.PlainLaw.{plain_law}
+use Rattle.step_laws.proofs.PlainLaw.{keeps_core, works_law}
 use Rattle.step_laws.proofs.StubLaw.{stub_law}
 use Rattle.nat_page.specs.Links.{EachLink}
 use Rattle.nat_page.specs.Entered.{IsPlace}
@@ -62,18 +61,12 @@ unfolding lines_of
 fork_ends links x a v to p s some f on =
     let k = x.kernel in
     let m = k.mote in
-    let image = image_held k in
-    let words = m.flash.words in
     let y = with_mote x (at_place m p f.devices) in
-    let row = stretch_of links k.layout image words a v s.ready.bounded.right s.code in
-    let InP : ℕ → Type 0 = λ p. InPool k.layout p in
-    let here : v + 0 ≡ v = omega arith in
-    let pool : InPool k.layout v = subst InP here (row.pool 0 some) in
     let first : MakesPlain x true None y = record {
       free = s.ready.running.free;
       going = s.ready.running.going;
-      pool = subst InP (sym s.at) pool;
-      starts = subst (IsPlace k.layout words) (sym s.at) s.code.place;
+      pool = rw s.at s.code.pool;
+      starts = rw s.at s.code.place;
       can = f.can;
       room = s.ready.running.room;
       shown = shown.Went;
@@ -83,7 +76,16 @@ fork_ends links x a v to p s some f on =
       kept = keeps_same (mote_of x).sram;
       result = refl;
     } in
-    plain_law links x a to None (at_place m p f.devices) 1 (omega arith) s.ready.paged (record { first = first; flash = refl; sram = refl; swap = refl; registers = refl; polls = f.polls; pointer = s.ready.idle.pointer; goes = f.goes }) on
+    works_law links x a to None None [] y 1 (omega arith) (record {
+      walk = (y, first, refl);
+      told = refl;
+      stops = refl;
+      serves = omega arith;
+      keeps = keeps_core x (record m.cpu { pc = p }) f.devices s.ready refl s.ready.idle.top f.polls;
+      polls = f.polls;
+      count = refl;
+      goes = f.goes;
+    }) on
 
 -- RJMP over the stub
 rjmp_form : (c : Bool) (w : ℕ) → the_form (0xC000 + cond c 22 3) w ≡ Some (forms.Rjmp (pos (cond c 22 3)))
@@ -93,8 +95,7 @@ rjmp_form false w = refl
 
 rjmp : (m : Mote) (n p : ℕ) → flash_form m m.cpu.pc ≡ Some (forms.Rjmp (pos n)) → m.cpu.pc + 1 + n ≡ p → p < 65536 → IsQuiet m (record m { cpu = record m.cpu { pc = p } })
 rjmp m n p is there low =
-    let P : ℕ → Type 0 = λ q. IsQuiet m (record m { cpu = record m.cpu { pc = q } }) in
-    subst P there (quiet_rjmp m m.cpu.r m.cpu.sreg m.cpu.pc m.sram n is (omega arith))
+    rw there at (quiet_rjmp m m.cpu.r m.cpu.sreg m.cpu.pc m.sram n is (omega arith))
 
 -- a move to another place, and on from there
 step_on : (links : Links) (y : State) (p t c : ℕ) (crosses : Bool) → MakesPlain y false None (with_mote y (record (mote_of y) { cpu = record (mote_of y).cpu { pc = p } }))
@@ -133,20 +134,20 @@ fork_law links x a v t true first s closed template f =
     let way = stub a t in
     let y = with_mote x (at_place (mote_of x) (v + 2) f.devices) in
     let bound = stub_bound a t in
-    let two : size (template_at image a) ≡ 2 + size way = omega (arith, ap size template, size-cons (Fixed first) (Fixed (0xC000 + size way) ∷ way), size-cons (Fixed (0xC000 + size way)) way) in
-    let row : IsStretch k.layout words v (2 + size way) = subst (IsStretch k.layout words v) two (stretch_of links k.layout image words a v s.ready.bounded.right s.code) in
+    let here = template_here links x a v _ s template in
+    let two : size (passing first way) ≡ 2 + size way = omega (arith, size-cons (Fixed first) (Fixed (0xC000 + size way) ∷ way), size-cons (Fixed (0xC000 + size way)) way) in
+    let whole : size (template_at image a) ≡ 2 + size way = ap size template ∙ two in
+    let row : IsStretch k.layout words v (2 + size way) = rw two at here.row in
     let there : v + 1 + 1 ≡ v + 2 = omega arith in
-    let stands : Stands links.enters words v (passing first way) = subst (Stands links.enters words v) template s.code.template in
-    let stands' : Stands links.enters words (v + 2) way = subst (λ (w : ℕ). Stands links.enters words w way) there stands.1.1 in
-    let marks : EachLink links.marks v (passing first way) = subst (λ (pieces : List Piece). EachLink links.marks v pieces) template s.code.linked in
-    let marks' : EachLink links.marks (v + 2) way = subst (λ (w : ℕ). EachLink links.marks w way) there marks in
     let polls = f.polls in
     let room = s.ready.bounded.polls in
     let fit = s.ready.idle in
     let free' : IsRunning y = record { free = s.ready.running.free; going = s.ready.running.going; room = omega arith } in
     let fit' : IsIdle y.kernel = record { registers = fit.registers; size = fit.size; pointer = fit.pointer; top = fit.top; some = fit.some; most = fit.most } in
     let begins : ¬ IsPlace k.layout words (v + 2) = row.inner 2 (omega arith) (omega arith) in
-    fork_ends links x a v t (v + 2) s (omega arith) f (by_way 1 links y t _ _ (stub_law links y a t (v + 2) false free' (stretch_behind k.layout words v 2 (size way) row (omega arith) (omega arith)) stands' marks' fit' refl begins))
+    fork_ends links x a v t (v + 2) s (omega arith) f (by_way 1 links y t _ _
+    (stub_law links y a t (v + 2) false free' (stretch_behind k.layout words v 2 (size way) row (omega arith) (omega arith)) (rw there at here.stands.1.1)
+    (subst (λ (w : ℕ). EachLink links.marks w way) there here.marks) fit' refl begins))
 fork_law links x a v t false first s closed template f =
     let k = x.kernel in
     let image = image_held k in
@@ -154,22 +155,26 @@ fork_law links x a v t false first s closed template f =
     let way = stub a t in
     let y = with_mote x (at_place (mote_of x) (v + 1) f.devices) in
     let bound = stub_bound a t in
-    let two : size (template_at image a) ≡ 2 + size way = omega (arith, ap size template, size-cons (Fixed first) (Fixed (0xC000 + size way) ∷ way), size-cons (Fixed (0xC000 + size way)) way) in
-    let row : IsStretch k.layout words v (2 + size way) = subst (IsStretch k.layout words v) two (stretch_of links k.layout image words a v s.ready.bounded.right s.code) in
+    let here = template_here links x a v _ s template in
+    let two : size (passing first way) ≡ 2 + size way = omega (arith, size-cons (Fixed first) (Fixed (0xC000 + size way) ∷ way), size-cons (Fixed (0xC000 + size way)) way) in
+    let whole : size (template_at image a) ≡ 2 + size way = ap size template ∙ two in
+    let row : IsStretch k.layout words v (2 + size way) = rw two at here.row in
     let low = row.low in
-    let stands : Stands links.enters words v (passing first way) = subst (Stands links.enters words v) template s.code.template in
     let polls = f.polls in
     let room = s.ready.bounded.polls in
     let fit = s.ready.idle in
     let p = v + size (template_at image a) in
     let c = is_crossing a t in
     let n : size way ≡ cond c 22 3 = stub_size a t in
-    let form = form_there y.kernel.mote (v + 1) (0xC000 + cond c 22 3) (word_at words (v + 1 + 1)) _ (stands.1.0 ∙ ap (λ n. 0xC000 + n) n, refl, omega arith) (rjmp_form c (word_at words (v + 1 + 1))) in
+    let form = form_there y.kernel.mote (v + 1) (0xC000 + cond c 22 3) (word_at words (v + 1 + 1)) _ (here.stands.1.0 ∙ ap (λ n. 0xC000 + n) n, refl, omega arith)
+    (rjmp_form c (word_at words (v + 1 + 1))) in
     let jumps : IsQuiet y.kernel.mote (record y.kernel.mote { cpu = record y.kernel.mote.cpu { pc = p } }) = rjmp y.kernel.mote (cond c 22 3) p form (omega arith) (omega arith) in
     let free' : IsRunning y = record { free = s.ready.running.free; going = s.ready.running.going; room = omega arith } in
     let y' = with_mote y (record (mote_of y) { cpu = record (mote_of y).cpu { pc = p } }) in
     let free'' : IsRunning y' = record { free = s.ready.running.free; going = s.ready.running.going; room = omega arith } in
     let fit' : IsIdle y'.kernel = record { registers = fit.registers; size = fit.size; pointer = fit.pointer; top = fit.top; some = fit.some; most = fit.most } in
-    let move : MakesPlain y false None y' = quiet_move y (record (mote_of y) { cpu = record (mote_of y).cpu { pc = p } }) false free' (row.pool 1 (omega arith)) (row.inner 1 (omega arith) (omega arith)) jumps in
+    let move : MakesPlain y false None y' =
+    quiet_move y (record (mote_of y) { cpu = record (mote_of y).cpu { pc = p } }) false free' (row.pool 1 (omega arith)) (row.inner 1 (omega arith) (omega arith)) jumps in
     let next = stub_bound a (next_of image a) in
-    fork_ends links x a v (next_of image a) (v + 1) s (omega arith) f (step_on links y p (next_of image a) _ _ move (onward links y' image a v free'' fit' s.ready.bounded.right s.code (omega arith) (omega arith) closed refl))
+    fork_ends links x a v (next_of image a) (v + 1) s (omega arith) f
+    (step_on links y p (next_of image a) _ _ move (onward links y' image a v free'' fit' s.ready.bounded.right s.code (omega arith) (omega arith) closed refl))

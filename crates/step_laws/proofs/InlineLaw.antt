@@ -1,7 +1,6 @@
 -- An inline template: inside the stack window its steps make the program's step, and outside they come to the service MEM.
-use Rattle.std.proofs.Common.{false, ◌≡◌, ℕ, ◌+◌, ◌-◌, ◌/◌, ◌%◌, ◌<◌, ◌≤◌, ◌++◌, ◌∙◌, true, List, length, refl, sym, ap, arith, subst, inl, inr}
-use Rattle.std.specs.Prelude.{◌&&◌, ◌==◌, None, slice_index}
-use Rattle.avr_isa.specs.Crossing.{is_crossing}
+use Rattle.std.proofs.Common.{false, ◌≡◌, ℕ, ◌+◌, ◌-◌, ◌/◌, ◌%◌, ◌<◌, ◌≤◌, ◌∙◌, true, List, length, refl, sym, ap, arith, subst, inl, inr}
+use Rattle.std.specs.Prelude.{None}
 use Rattle.avr_isa.specs.Instruction.{size_of}
 use Rattle.avr_isa.specs.declared.form.Form.{Form}
 use Rattle.avr_isa.specs.Addresses.{wrapping_sum}
@@ -22,46 +21,41 @@ use Rattle.nat_template.specs.Stubs.{mem_entry}
 use Rattle.nat_template.proofs.Sizes.{stub_bound}
 use Rattle.page_draft.specs.Standing.{size}
 use Rattle.page_draft.specs.Runs.{template_at, next_of, is_closed}
-use Rattle.nat_page.specs.Entered.{IsPlace}
 use Rattle.avr_decode.specs.Program.{instruction_at}
 use Rattle.flat_machine.specs.FlatMachine.{Goes, tried}
 use Rattle.mem_guard.specs.Left.{IsKept}
 use Rattle.mem_guard.proofs.GuardedStep.{guarded_goes}
-use Rattle.preempt_count.specs.Counting.{count_over}
 use Rattle.kernel_entry.specs.Parts.{core_of, descriptor, memory_of, rested, return_address, image_held}
 use Rattle.kernel_entry.specs.Seen.{program, state_at}
 use Rattle.inline_laws.specs.InlineWays.{Passes, CanPass, Ways, placed, begun, trapped, saved_of, pointer_of}
-use Rattle.inline_laws.proofs.Cells.{SameButCells, saved_same, pointer_saved, pointer_byte_saved, pointer_apart}
+use Rattle.inline_laws.proofs.Cells.{SameButCells, saved_of_same, pointer_of_saved, pointer_byte_of, pointer_apart}
 use Rattle.step_laws.specs.Links.{Links}
 use Rattle.step_laws.specs.Moves.{lines_of, plains}
 use Rattle.step_laws.specs.Settings.{IsIdle, IsRunning, IsSetting}
-use Rattle.step_laws.specs.States.{InPool, State, mote_of, with_mote}
-use Rattle.step_laws.specs.StepLaws.{Reaches, StepLaw, Outcome as StepOutcome, crossings_over}
+use Rattle.step_laws.specs.States.{State, mote_of, with_mote}
+use Rattle.step_laws.specs.StepLaws.{StepLaw, crossings_over}
 use Rattle.step_laws.specs.Walks.{MakesPlain, WalkFrom}
 use Rattle.step_laws.proofs.AskedLaw.{Asked, IsAsked, asked, owns_by}
 use Rattle.step_laws.proofs.Executed.{executed_at, kept_of}
 use Rattle.step_laws.proofs.InlineSeen.{core_after, memory_after, seen_alike}
-use Rattle.step_laws.proofs.InlineSteps.{passes_walk}
-use Rattle.step_laws.proofs.KernelCalls.{pushed, pushed_address, pushed_kept, pushed_size}
+use Rattle.step_laws.proofs.PlainMoves.{passes_walk, quiet_move}
+use Rattle.step_laws.proofs.KernelCalls.{pushed, pushed_address, pushed_kept, pushed_size, running_at}
 use Rattle.step_laws.proofs.Onward.{onward}
-use Rattle.step_laws.proofs.PlainMoves.{quiet_move}
 use Rattle.step_laws.proofs.MemService.{IsReached, served_by}
-use Rattle.step_laws.proofs.PlainRuns.{plains_counted, plains_served, plains_stopped, plains_lines, plains_reset}
-use Rattle.step_laws.proofs.SameProgram.{flat_same, paged_after}
+use Rattle.step_laws.proofs.PlainLaw.{keeps_mote, plains_are, works_law}
 use Rattle.step_laws.proofs.Stretches.{stretch_of}
-use Rattle.step_laws.proofs.Ways.{from_on}
 use Rattle.flat_machine.proofs.ReadLaws.{reads_program}
 
 -- the walk of the steps, from the place of the template on
-pub inline_walk : (links : Links) (x : State) (a v n more : ℕ) (last : Mote) → IsSetting links x a v → size (template_at (image_held x.kernel) a) ≡ n → IsQuiet (placed (mote_of x) v) (begun (mote_of x) v)
+pub inline_walk : (links : Links) (x : State) (a v n more : ℕ) (last : Mote) → IsSetting links x a v → size (template_at (image_held x.kernel) a) ≡ n
+    → IsQuiet (placed (mote_of x) v) (begun (mote_of x) v)
     → Passes (v + 1) (v + n) more (begun (mote_of x) v) last → WalkFrom x true None (plains more) (with_mote x last)
 inline_walk links x a v n more last s is first passes =
     let m = mote_of x in
     let row = stretch_of links x.kernel.layout (image_held x.kernel) m.flash.words a v s.ready.bounded.right s.code in
     let Q : ℕ → Type 0 = λ pc. IsQuiet (held m m.cpu.r m.cpu.sreg pc m.sram) (begun m v) in
-    let P : ℕ → Type 0 = λ k. Passes (v + 1) (v + k) more (begun m v) last in
-    let first' : MakesPlain x true None (with_mote x (begun m v)) = quiet_move x (begun m v) true s.ready.running (subst (InPool x.kernel.layout) (sym s.at) s.code.pool) (subst (IsPlace x.kernel.layout m.flash.words) (sym s.at) s.code.place) (subst Q (sym s.at) first) in
-    (with_mote x (begun m v), first', passes_walk x v (size (template_at (image_held x.kernel) a)) more (begun m v) last s.ready.running row refl refl (subst P (sym is) passes))
+    let first' : MakesPlain x true None (with_mote x (begun m v)) = quiet_move x (begun m v) true s.ready.running (rw s.at s.code.pool) (rw s.at s.code.place) (subst Q (sym s.at) first) in
+    (with_mote x (begun m v), first', passes_walk x v (size (template_at (image_held x.kernel) a)) more (begun m v) last s.ready.running row refl refl (rw is passes))
 
 -- Inside: the steps leave these registers and bytes, which agree but for the cells with what the instruction leaves.
 pub record Inside (x : State) (a v n more : ℕ) (form : Form) (r sram sram' : List ℕ) (sp : ℕ) : Type 0 where
@@ -75,8 +69,10 @@ pub record Inside (x : State) (a v n more : ℕ) (form : Form) (r sram sram' : L
   pub registers : length r ≡ length (mote_of x).cpu.r
 
 -- which is the original program's step
-pub inside_goes : (x : State) (a v n more : ℕ) (form : Form) (r sram sram' : List ℕ) (sp : ℕ) → Inside x a v n more form r sram sram' sp → IsPaged (mote_of x).sram (mote_of x).swap → IsReached x a form
-    → (s c : ℕ) → tried (program x.kernel) (state_at x.kernel a s c) ≡ Goes None (state_at (with_mote x (held (mote_of x) r (mote_of x).cpu.sreg (v + n) sram')).kernel (wrapping_sum a 1) (s + 1) (crossings_over a (wrapping_sum a 1) c))
+pub inside_goes : (x : State) (a v n more : ℕ) (form : Form) (r sram sram' : List ℕ) (sp : ℕ) → Inside x a v n more form r sram sram' sp → IsPaged (mote_of x).sram (mote_of x).swap
+    → IsReached x a form
+    → (s c : ℕ) → tried (program x.kernel) (state_at x.kernel a s c)
+    ≡ Goes None (state_at (with_mote x (held (mote_of x) r (mote_of x).cpu.sreg (v + n) sram')).kernel (wrapping_sum a 1) (s + 1) (crossings_over a (wrapping_sum a 1) c))
 inside_goes x a v n more form r sram sram' sp f paged g s c =
     let k = x.kernel in
     let y = with_mote x (held (mote_of x) r (mote_of x).cpu.sreg (v + n) sram') in
@@ -100,83 +96,51 @@ inside_law links x a v n more form r sram sram' sp s f g next width some =
     let most = s.ready.idle.most in
     let registers' = f.registers in
     let fit : IsIdle y.kernel = record { registers = omega arith; size = f.same.size ∙ kept.paged.sized.sram; pointer = f.low; top = s.ready.idle.top; some = omega arith; most = omega arith } in
-    let free : IsRunning y = record { free = s.ready.running.free; going = s.ready.running.going; room = s.ready.running.room } in
+    let free : IsRunning y = running_at x _ _ s.ready.running in
     let bound = stub_bound a (next_of image a) in
     let there : v + n ≡ v + size (template_at image a) = ap (λ i. v + i) (sym width) in
     let on = onward links y image a v free fit s.ready.bounded.right s.code (omega arith) (omega arith) (ap is_closed g.shape) there in
-    let end = on.end in
-    let P : ℕ → Type 0 = λ to. (s c : ℕ) → tried (program k) (state_at k a s c) ≡ Goes None (state_at end.kernel to (s + 1) (crossings_over a to c)) in
-    let goes : P (wrapping_sum a 1) = λ steps crossings.
-    inside_goes x a v n more form r sram sram' sp f s.ready.paged g steps crossings
-    ∙ ap (Goes None) (sym (flat_same y.kernel end.kernel (wrapping_sum a 1) (steps + 1) (crossings_over a (wrapping_sum a 1) crossings) on.left.same)) in
-    record {
-      end = end;
-      first = None;
-      rest = plains more ++ on.moves;
-      line = None;
-      walk = from_on x y end true None (plains more) on.moves f.walk on.walk;
-      few = let few = on.few in let few' = f.few in omega (arith, plains_counted more on.moves);
-      serves = let serves = on.serves in omega (arith, plains_served more on.moves);
-      lines = plains_lines more on.moves ∙ on.silent;
-      keeps = record {
-        layout = on.left.layout;
-        part = on.left.part;
-        quantum = on.left.quantum;
-        flash = on.left.same.flash;
-        slots = ap length on.left.same.swap;
-        paged = paged_after y.kernel.mote end.kernel.mote on.left.same paged;
-        registers = ap length on.left.same.registers ∙ f.registers;
-        top = on.left.same.top;
-        polls = omega (arith, ap (λ d. d.polls) on.left.same.devices);
-        tables = λ b low high. on.left.same.bytes b (omega arith) (λ e. omega arith) (λ e. omega arith) ∙ f.same.bytes b (omega arith) ∙ kept.tables b (omega arith) high;
-        pointer = let low = f.low in omega (arith, on.left.same.bytes vsp_cell (omega arith) (λ e. omega arith) (λ e. omega arith));
-      };
-      outcome = StepOutcome.Went (next_of image a) (record {
-        wakes = false;
-        silent = λ e. absurd (cc);
-        fresh = λ e. absurd (cc);
-        polls = λ e. omega (arith, ap (λ d. d.polls) on.left.same.devices);
-        going = on.left.going;
-        original = subst P next goes;
-        reaches = subst (λ c. Reaches links (next_of image a) (is_crossing a (next_of image a) && (c == 1)) on.end) count on.left.reaches;
-        count = on.left.count ∙ ap (λ c. count_over k.quantum a (next_of image a) c) count;
-        unstopped = plains_stopped more on.moves ∙ on.goes;
-        reset = plains_reset x (is_crossing a (next_of image a)) more on.moves (λ crosses one. on.reset crosses (count ∙ one));
-      });
-    }
+    let plain = plains_are more in
+    works_law links x a (next_of image a) None None (plains more) y 0 (let few = f.few in omega (arith, plain.0)) (record {
+      walk = f.walk;
+      told = plain.3;
+      stops = plain.2;
+      serves = omega (arith, plain.1);
+      keeps = keeps_mote x y refl refl refl paged registers' s.ready.idle.top (omega arith) (λ b low high. f.same.bytes b (omega arith) ∙ kept.tables b (omega arith) high) f.low;
+      polls = omega arith;
+      count = count;
+      goes = rw next at (inside_goes x a v n more form r sram sram' sp f s.ready.paged g);
+    }) on
 
 pointer_pushed : (ram : List ℕ) (back : ℕ) → data_word_at (pushed ram back) vsp_cell ≡ data_word_at ram vsp_cell
 pointer_pushed ram back = pointer_apart (with_byte ram 0x011F (back % 256)) 0x011E (back / 256) (omega arith) ∙ pointer_apart ram 0x011F (back % 256) (omega arith)
 
 -- outside: MEM is asked at the trap, whose last word is the template's
-pub trap_asks : (links : Links) (x : State) (a v n : ℕ) → IsSetting links x a v → CanPass (mote_of x) v → size (template_at (image_held x.kernel) a) ≡ n + 1 → flash_word (mote_of x).flash.words (v + n) ≡ a
+pub trap_asks : (links : Links) (x : State) (a v n : ℕ) → IsSetting links x a v → CanPass (mote_of x) v → size (template_at (image_held x.kernel) a) ≡ n + 1
+    → flash_word (mote_of x).flash.words (v + n) ≡ a
     → IsAsked x a (saved_of (mote_of x)) (v + n) mem_entry
 trap_asks links x a v n s can width word =
     let k = x.kernel in
     let m = mote_of x in
     let image = image_held k in
-    let z_low = slice_index m.cpu.r 30 in
-    let z_high = slice_index m.cpu.r 31 in
     let ram = saved_of m in
     let back = v + n in
     let kc = asked x ram back mem_entry in
     let low = (stretch_of links k.layout image m.flash.words a v s.ready.bounded.right s.code).low in
-    let same : SameButCells m.sram ram = saved_same m.sram z_low z_high m.cpu.sreg in
-    let bytes : (b : ℕ) → 0x0120 ≤ b → byte_at (pushed ram back) b ≡ byte_at m.sram b = λ b from. pushed_kept ram back b (omega arith) (λ e. omega arith) (λ e. omega arith) ∙ same.bytes b (omega arith) in
+    let same : SameButCells m.sram ram = saved_of_same m in
+    let bytes : (b : ℕ) → 0x0120 ≤ b → byte_at (pushed ram back) b ≡ byte_at m.sram b = λ b from. pushed_kept ram back b (omega arith) ∙ same.bytes b (omega arith) in
     let size' : length (pushed ram back) ≡ length m.sram = pushed_size ram back ∙ same.size in
     let address : return_address kc ≡ back = pushed_address ram back (same.size ∙ can.size) in
     let behind : descriptor kc ≡ a = ap (flash_word m.flash.words) address ∙ word in
     let paging : SamePaging m.sram (pushed ram back) = record { size = size'; cells = λ b from to. bytes b from; tables = λ b from to. bytes b (omega arith) } in
-    let pointer : data_word_at (pushed ram back) vsp_cell ≡ pointer_of m = pointer_pushed ram back ∙ pointer_saved m.sram z_low z_high m.cpu.sreg in
-    let polls = s.ready.bounded.polls in
-    let byte = can.pointer in
+    let pointer : data_word_at (pushed ram back) vsp_cell ≡ pointer_of m = pointer_pushed ram back ∙ pointer_of_saved m in
     record {
       low = omega arith;
       address = address;
       behind = behind;
       sees = λ pc steps c. seen_alike k (rested kc) m.sram (pointer_of m) pc steps c pointer size' bytes refl refl;
-      count = pushed_kept ram back count_cell (omega arith) (λ e. omega arith) (λ e. omega arith) ∙ same.front count_cell (omega arith) (omega arith);
-      pointer = omega (arith, pushed_kept ram back vsp_cell (omega arith) (λ e. omega arith) (λ e. omega arith), pointer_byte_saved m.sram z_low z_high m.cpu.sreg vsp_cell (omega arith) (omega arith));
+      count = pushed_kept ram back count_cell (omega arith) ∙ same.front count_cell (omega arith) (omega arith);
+      pointer = omega (arith, pushed_kept ram back vsp_cell (omega arith), pointer_byte_of m vsp_cell (omega arith));
       tables = λ b from to. bytes b (omega arith);
       shape = ap (λ w. shape_of w (instruction_at image w)) behind;
       can = record { paged = paged_same m.sram (pushed ram back) m.swap paging s.ready.paged; room = omega arith };
@@ -199,12 +163,11 @@ pub record IsInline (x : State) (a v n address steps lower upper : ℕ) (form : 
 
 pub can_pass : (links : Links) (x : State) (a v : ℕ) → IsSetting links x a v → CanPass (mote_of x) v
 can_pass links x a v s =
-    let row = stretch_of links x.kernel.layout (image_held x.kernel) (mote_of x).flash.words a v s.ready.bounded.right s.code in
-    let low = row.low in
     record { registers = s.ready.idle.registers; size = s.ready.idle.size; pointer = s.ready.idle.pointer; top = s.ready.idle.top; room = omega arith }
 
 -- inside the window, and outside it
-pub inside_of : (links : Links) (x : State) (a v n address steps lower upper : ℕ) (form : Form) (r sram sram' : List ℕ) (sp : ℕ) → IsSetting links x a v → IsInline x a v n address steps lower upper form r sram sram' sp
+pub inside_of : (links : Links) (x : State) (a v n address steps lower upper : ℕ) (form : Form) (r sram sram' : List ℕ) (sp : ℕ) → IsSetting links x a v
+    → IsInline x a v n address steps lower upper form r sram sram' sp
     → stack_window.first ≤ address → address < stack_window.behind → Inside x a v (n + 1) steps form r sram sram' sp
 inside_of links x a v n address steps lower upper form r sram sram' sp s t from to = record {
   few = t.few.0;
@@ -218,7 +181,8 @@ inside_of links x a v n address steps lower upper form r sram sram' sp s t from 
 }
 
 pub outside_of : (links : Links) (x : State) (a v n more : ℕ) → IsSetting links x a v → size (template_at (image_held x.kernel) a) ≡ n + 1 → flash_word (mote_of x).flash.words (v + n) ≡ a → more ≤ 20
-    → IsQuiet (placed (mote_of x) v) (begun (mote_of x) v) → Passes (v + 1) (v + (n + 1)) more (begun (mote_of x) v) (trapped (mote_of x) (v + (n + 1) - 1) (saved_of (mote_of x))) → Asked x a (saved_of (mote_of x)) (v + n) mem_entry more
+    → IsQuiet (placed (mote_of x) v) (begun (mote_of x) v) → Passes (v + 1) (v + (n + 1)) more (begun (mote_of x) v) (trapped (mote_of x) (v + (n + 1) - 1) (saved_of (mote_of x)))
+    → Asked x a (saved_of (mote_of x)) (v + n) mem_entry more
 outside_of links x a v n more s width word few first passes =
     let m = mote_of x in
     let W : ℕ → Type 0 = λ back. WalkFrom x true None (plains more) (with_mote x (trapped m back (saved_of m))) in
@@ -228,9 +192,11 @@ outside_of links x a v n more s width word few first passes =
       state = trap_asks links x a v n s (can_pass links x a v s) width word;
     }
 
-pub inline_law : (links : Links) (x : State) (a v n address steps lower upper : ℕ) (form : Form) (r sram sram' : List ℕ) (sp : ℕ) → IsSetting links x a v → IsReached x a form → IsInline x a v n address steps lower upper form r sram sram' sp → StepLaw links x a
+pub inline_law : (links : Links) (x : State) (a v n address steps lower upper : ℕ) (form : Form) (r sram sram' : List ℕ) (sp : ℕ) → IsSetting links x a v → IsReached x a form
+    → IsInline x a v n address steps lower upper form r sram sram' sp → StepLaw links x a
 inline_law links x a v n address steps lower upper form r sram sram' sp s f t =
-    let outside : (more : ℕ) → more ≤ 20 → Passes (v + 1) (v + (n + 1)) more (begun (mote_of x) v) (trapped (mote_of x) (v + (n + 1) - 1) (saved_of (mote_of x))) → StepLaw links x a = λ more few passes.
+    let outside : (more : ℕ) → more ≤ 20 → Passes (v + 1) (v + (n + 1)) more (begun (mote_of x) v) (trapped (mote_of x) (v + (n + 1) - 1) (saved_of (mote_of x))) → StepLaw links x a =
+    λ more few passes.
     let c = outside_of links x a v n more s t.width t.word_there few t.ways.first passes in
     served_by links x a v (saved_of (mote_of x)) (v + n) more form s c (CanServe.AtMem refl (c.state.shape ∙ f.shape) c.state.can) f (let width = t.width in omega arith) in
     elim (cases_lt address stack_window.first) [

@@ -1,6 +1,6 @@
 -- What an inline template does, step by step: the program's step, as MEM makes it, or the call of MEM.
 use Rattle.std.proofs.Common.{◌≡◌, ℕ, suc, ◌+◌, ◌-◌, ◌≤◌, ◌∙◌, Bool, true, false, List, refl, sym, ap, ap₂, arith, subst}
-use Rattle.std.specs.Prelude.{◌≢◌, if◌then◌else◌, slice_index, Option, Some, None}
+use Rattle.std.specs.Prelude.{◌≢◌, if◌then◌else◌, Option, Some, None}
 use Rattle.avr_isa.specs.declared.form.Form.{Form}
 use Rattle.avr_isa.specs.declared.form.Form.TheVariants as forms
 use Rattle.avr_isa.specs.declared.operation.Base.TheVariants.{Y}
@@ -27,7 +27,7 @@ use Rattle.kernel_entry.specs.Parts.{core_of, descriptor, memory_of, return_addr
 use Rattle.kernel_entry.specs.Seen.{program, state_at}
 use Rattle.kernel_entry.specs.Services.{foreign_read, served, served_at}
 use Rattle.inline_laws.specs.InlineWays.{Passes, begun, trapped, saved_of}
-use Rattle.inline_laws.proofs.Cells.{saved_same}
+use Rattle.inline_laws.proofs.Cells.{saved_of_same}
 use Rattle.step_laws.specs.Moves.{plains}
 use Rattle.step_laws.specs.Walks.{Walk, WalkFrom}
 use Rattle.step_laws.proofs.Ways.{walk_of}
@@ -41,7 +41,7 @@ use Rattle.flat_machine.proofs.MachineLaws.{tried_read}
 use Rattle.step_laws.proofs.EveryShape.{entry_setting}
 use Rattle.step_laws.proofs.Executed.{executed_at, flat_put, kept_of, returned}
 use Rattle.step_laws.proofs.InlineLaw.{IsInline, can_pass, inside_goes, inside_of, outside_of, trap_asks}
-use Rattle.step_laws.proofs.InlineTemplates.{push_inline, pop_inline, load_inline, store_inline}
+use Rattle.step_laws.proofs.MemLaw.{push_inline, pop_inline, load_inline, store_inline}
 use Rattle.step_laws.proofs.KernelCalls.{pushed_kept}
 use Rattle.step_laws.proofs.MemService.{IsReached, reached_by, mem_template}
 
@@ -57,8 +57,10 @@ paged_at k (CanServe.AtSelf at shape can counts) is = can.paged
 paged_at k (CanServe.AtFault at shape can) is = absurd (omega arith)
 
 -- MEM's answer, by what the execution comes to
-mem_executes : (k : Kernel) (a to : ℕ) (form : Form) (end : Kernel) (crossings : ℕ) (o : Outcome Guarded Cpu) → executed_at k a form ≡ o → IsPaged k.mote.sram k.mote.swap → k.mote.cpu.pc ≡ mem_entry → descriptor k ≡ a
-    → instruction_at (image_held k) a ≡ Some form → is_executed form ≡ true → foreign_read k ≡ None → Owns k a form → RunsOn k a form → tried (program k) (state_at k a 0 0) ≡ Goes None (state_at end to 1 crossings)
+mem_executes : (k : Kernel) (a to : ℕ) (form : Form) (end : Kernel) (crossings : ℕ) (o : Outcome Guarded Cpu) → executed_at k a form ≡ o → IsPaged k.mote.sram k.mote.swap → k.mote.cpu.pc ≡ mem_entry
+    → descriptor k ≡ a
+    → instruction_at (image_held k) a ≡ Some form → is_executed form ≡ true → foreign_read k ≡ None → Owns k a form → RunsOn k a form
+    → tried (program k) (state_at k a 0 0) ≡ Goes None (state_at end to 1 crossings)
     → ((served k).0 ≡ answers.Resume None) × ((s c : ℕ) → state_at (served k).1 to s c ≡ state_at end to s c)
 unfolding served
 mem_executes k a to form end crossings (WentOn cpu g) done paged at behind is runs none own apart goes =
@@ -78,10 +80,12 @@ mem_executes k a to form end crossings (StoppedOn stop) done paged at behind is 
     absurd (cc)
 
 -- it executes, since the original program goes on
-mem_goes : (k : Kernel) (a to : ℕ) (form : Form) (end : Kernel) (crossings : ℕ) (foreign : Option ℕ) → foreign_at k a form ≡ foreign → IsPaged k.mote.sram k.mote.swap → k.mote.cpu.pc ≡ mem_entry → descriptor k ≡ a
+mem_goes : (k : Kernel) (a to : ℕ) (form : Form) (end : Kernel) (crossings : ℕ) (foreign : Option ℕ) → foreign_at k a form ≡ foreign → IsPaged k.mote.sram k.mote.swap → k.mote.cpu.pc ≡ mem_entry
+    → descriptor k ≡ a
     → instruction_at (image_held k) a ≡ Some form → is_executed form ≡ true → RunsOn k a form → tried (program k) (state_at k a 0 0) ≡ Goes None (state_at end to 1 crossings)
     → ((served k).0 ≡ answers.Resume None) × ((s c : ℕ) → state_at (served k).1 to s c ≡ state_at end to s c)
-mem_goes k a to form end crossings None none paged at behind is runs apart goes = mem_executes k a to form end crossings _ refl paged at behind is runs (foreign_is k a form behind is ∙ none) none apart goes
+mem_goes k a to form end crossings None none paged at behind is runs apart goes =
+    mem_executes k a to form end crossings _ refl paged at behind is runs (foreign_is k a form behind is ∙ none) none apart goes
 mem_goes k a to form end crossings (Some w) foreign paged at behind is runs apart goes =
     let both = sym (tried_read (program k) (state_at k a 0 0) form w is runs foreign) ∙ goes in
     absurd (cc)
@@ -102,12 +106,13 @@ step_walk : (x z : State) (more : ℕ) → WalkFrom x true None (plains more) z 
 step_walk x z more walk = (walk.0, walk.1, walk_of walk.0 z (plains more) walk.2)
 
 -- the ways through a template
-runs_of : (links : Links) (x : State) (a v n address steps lower upper : ℕ) (form : Form) (r sram sram' : List ℕ) (sp : ℕ) → IsSetting links x a v → IsReached x a form → IsInline x a v n address steps lower upper form r sram sram' sp
+runs_of : (links : Links) (x : State) (a v n address steps lower upper : ℕ) (form : Form) (r sram sram' : List ℕ) (sp : ℕ) → IsSetting links x a v → IsReached x a form
+    → IsInline x a v n address steps lower upper form r sram sram' sp
     → HasInlineRun x a (record { words = n + 1; address = address; inside = suc steps; below = suc lower; above = suc upper })
 runs_of links x a v n address steps lower upper form r sram sram' sp s f t =
     let m = mote_of x in
     let trap = trap_asks links x a v n s (can_pass links x a v s) t.width t.word_there in
-    let saves = saved_same m.sram (slice_index m.cpu.r 30) (slice_index m.cpu.r 31) m.cpu.sreg in
+    let saves = saved_of_same m in
     let calls : (more : ℕ) → more ≤ 20 → Passes (v + 1) (v + (n + 1)) more (begun m v) (trapped m (v + (n + 1) - 1) (saved_of m)) → CallsMem x a (n + 1) (suc more) = λ more few passes. record {
       end = trapped m (v + n) (saved_of m);
       walk = step_walk x _ more (outside_of links x a v n more s t.width t.word_there few t.ways.first passes).walk;
@@ -117,9 +122,9 @@ runs_of links x a v n address steps lower upper form r sram sram' sp s f t =
         flash = refl;
         swap = refl;
         devices = refl;
-        front = λ b from to. pushed_kept (saved_of m) (v + n) b from (λ e. omega arith) (λ e. omega arith) ∙ saves.front b from to;
-        bytes = λ b from to. pushed_kept (saved_of m) (v + n) b (omega arith) (λ e. omega arith) (λ e. omega arith) ∙ saves.bytes b from;
-        heap = λ b from to. pushed_kept (saved_of m) (v + n) b (omega arith) (λ e. omega arith) (λ e. omega arith) ∙ saves.bytes b (omega arith);
+        front = λ b from to. pushed_kept (saved_of m) (v + n) b (omega arith) ∙ saves.front b from to;
+        bytes = λ b from to. pushed_kept (saved_of m) (v + n) b (omega arith) ∙ saves.bytes b from;
+        heap = λ b from to. pushed_kept (saved_of m) (v + n) b (omega arith) ∙ saves.bytes b (omega arith);
       };
     } in
     record {
@@ -155,7 +160,8 @@ chosen true x a own t is runs = absurd (cc)
 chosen false x a own t is runs = let same : own ≡ t = cc in subst (HasInlineRun x a) same (runs refl)
 
 -- by the instruction
-runs_by : (links : Links) (x : State) (a v : ℕ) (form : Option Form) (t : Inline) → IsSetting links x a v → instruction_at (image_held x.kernel) a ≡ form → inline_of (mote_of x) form ≡ Some t → HasInlineRun x a t
+runs_by : (links : Links) (x : State) (a v : ℕ) (form : Option Form) (t : Inline) → IsSetting links x a v → instruction_at (image_held x.kernel) a ≡ form → inline_of (mote_of x) form ≡ Some t
+    → HasInlineRun x a t
 unfolding shape_of_form mem_pieces
 runs_by links x a v (Some (forms.Push d)) t s is here = chosen (is_z d) x a _ t here (λ plain.
     let f = reached_by links x a v (forms.Push d) s is refl in
@@ -165,10 +171,12 @@ runs_by links x a v (Some (forms.Pop d)) t s is here = chosen (is_z d) x a _ t h
     runs_of links x a v 38 _ 18 13 15 (forms.Pop d) _ _ _ _ s f (pop_inline links x a v d plain s f (mem_template x a (forms.Pop d) f ∙ ap (λ z. mem_or z (pop_forms d) a) plain)))
 runs_by links x a v (Some (forms.LoadOff d Y q)) t s is here = chosen (is_z d) x a _ t here (λ plain.
     let f = reached_by links x a v (forms.LoadOff d Y q) s is refl in
-    runs_of links x a v 31 _ 15 12 14 (forms.LoadOff d Y q) _ _ _ _ s f (load_inline links x a v d q plain s f (mem_template x a (forms.LoadOff d Y q) f ∙ ap (λ z. mem_or z (load_forms d q) a) plain)))
+    runs_of links x a v 31 _ 15 12 14 (forms.LoadOff d Y q) _ _ _ _ s f
+    (load_inline links x a v d q plain s f (mem_template x a (forms.LoadOff d Y q) f ∙ ap (λ z. mem_or z (load_forms d q) a) plain)))
 runs_by links x a v (Some (forms.StoreOff Y q d)) t s is here = chosen (is_z d) x a _ t here (λ plain.
     let f = reached_by links x a v (forms.StoreOff Y q d) s is refl in
-    runs_of links x a v 31 _ 15 12 14 (forms.StoreOff Y q d) _ _ _ _ s f (store_inline links x a v d q plain s f (mem_template x a (forms.StoreOff Y q d) f ∙ ap (λ z. mem_or z (store_forms q d) a) plain)))
+    runs_of links x a v 31 _ 15 12 14 (forms.StoreOff Y q d) _ _ _ _ s f
+    (store_inline links x a v d q plain s f (mem_template x a (forms.StoreOff Y q d) f ∙ ap (λ z. mem_or z (store_forms q d) a) plain)))
 runs_by links x a v _ t s is here = absurd (cc)
 
 pub runs_inline : RunInline

@@ -95,7 +95,8 @@ push_executed k a d from to =
     let sp = virtual_sp k in
     let x = slice_index k.mote.cpu.r d in
     let down : wrapping_difference sp 1 ≡ sp - 1 = omega arith in
-    exec_went guarded_calls (Push d) (core_of k a) (memory_of k) (next_size (image_held k) a) Done (memory_after k (with_byte k.mote.sram sp x)) (pushed_there (memory_of k) sp x (in_window sp from to))
+    exec_went guarded_calls (Push d) (core_of k a) (memory_of k) (next_size (image_held k) a) Done (memory_after k (with_byte k.mote.sram sp x))
+    (pushed_there (memory_of k) sp x (in_window sp from to))
     ∙ ap (λ p. WentOn (core_after k a k.mote.cpu.r p) (memory_after k (with_byte k.mote.sram sp x))) down
 
 pub pop_executed : (k : Kernel) (a d : ℕ) → stack_window.first ≤ above_pointer k.mote → above_pointer k.mote < stack_window.behind
@@ -103,7 +104,8 @@ pub pop_executed : (k : Kernel) (a d : ℕ) → stack_window.first ≤ above_poi
 unfolding ask_of finish_of
 pop_executed k a d from to =
     let p = above_pointer k.mote in
-    exec_went guarded_calls (Pop d) (core_of k a) (memory_of k) (next_size (image_held k) a) (Byte (byte_at k.mote.sram p)) (memory_of k) (popped_there (memory_of k) (virtual_sp k) (in_window p from to))
+    exec_went guarded_calls (Pop d) (core_of k a) (memory_of k) (next_size (image_held k) a) (Byte (byte_at k.mote.sram p)) (memory_of k)
+    (popped_there (memory_of k) (virtual_sp k) (in_window p from to))
 
 pub load_executed : (k : Kernel) (a d q : ℕ) → stack_window.first ≤ from_frame k.mote q → from_frame k.mote q < stack_window.behind
     → executed_at k a (LoadOff d Y q) ≡ WentOn (core_after k a (slice_set k.mote.cpu.r d (byte_at k.mote.sram (from_frame k.mote q))) (virtual_sp k)) (memory_of k)
@@ -124,9 +126,11 @@ store_executed k a d q from to =
     ∙ ap (λ (c : Cpu). WentOn (with_counter c (wrapping_sum c.pc 1)) (memory_after k (with_byte k.mote.sram p x))) (stored_is (core_of k a) p x from)
 
 -- another kernel is seen alike where SRAM agrees from 0x0120 on, and the stack pointer is this
-pub seen_alike : (k l : Kernel) (sram : List ℕ) (sp t s c : ℕ) → data_word_at l.mote.sram vsp_cell ≡ sp → length l.mote.sram ≡ length sram → ((b : ℕ) → 0x0120 ≤ b → byte_at l.mote.sram b ≡ byte_at sram b)
+pub seen_alike : (k l : Kernel) (sram : List ℕ) (sp t s c : ℕ) → data_word_at l.mote.sram vsp_cell ≡ sp → length l.mote.sram ≡ length sram
+    → ((b : ℕ) → 0x0120 ≤ b → byte_at l.mote.sram b ≡ byte_at sram b)
     → l.mote.devices ≡ k.mote.devices → l.mote.swap ≡ k.mote.swap
     → state_at l t s c ≡ state_of (memory_after k sram) (record { r = l.mote.cpu.r; sreg = l.mote.cpu.sreg; sp = sp; pc = t }) s c
 seen_alike k l sram sp t s c pointer size bytes devices swap =
     let paging : SamePaging sram l.mote.sram = record { size = size; cells = λ b from to. bytes b from; tables = λ b from to. bytes b (omega arith) } in
-    flat_parts _ _ _ _ _ _ t s c _ _ _ _ _ _ refl refl pointer (ap (vmem l.mote.sram) swap ∙ vmem_same sram l.mote.sram k.mote.swap paging (λ b from to. bytes b (omega arith))) devices (pages_same sram l.mote.sram paging)
+    flat_parts _ _ _ _ _ _ t s c _ _ _ _ _ _ refl refl pointer (ap (vmem l.mote.sram) swap ∙ vmem_same sram l.mote.sram k.mote.swap paging (λ b from to. bytes b (omega arith))) devices
+    (pages_same sram l.mote.sram paging)

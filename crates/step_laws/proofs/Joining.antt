@@ -22,7 +22,7 @@ lines_of-append (Arrive target made ops ∷ before) after = lines_of-append befo
 lines_of-append (Take stops ∷ before) after = lines_of-append before after
 
 -- and their numbers
-numbered-append : (before after : List Move) (n : Numbers) → numbered (before ++ after) n ≡ numbered after (numbered before n)
+pub numbered-append : (before after : List Move) (n : Numbers) → numbered (before ++ after) n ≡ numbered after (numbered before n)
 numbered-append [] after n = refl
 numbered-append (move ∷ before) after n = numbered-append before after (moved move n)
 

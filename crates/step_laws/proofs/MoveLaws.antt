@@ -16,15 +16,13 @@ use Rattle.kernel_entry.specs.declared.kernel.Taken.{Taken}
 use Rattle.kernel_entry.specs.Conditions.{CanServe}
 use Rattle.kernel_entry.specs.Interrupts.{taken}
 use Rattle.step_laws.specs.Moves.{Plain, Serve, Move, Begin, Within, Arrive, Take}
-use Rattle.step_laws.specs.States.{State, Awaited, Begins, InPool, mote_of, with_mote, is_taken_at, after_taking, stops_taking, store_of, arrived}
+use Rattle.step_laws.specs.States.{State, Awaited, Begins, InPool, mote_of, with_mote, after_taking, stops_taking, store_of, arrived}
 use Rattle.step_laws.specs.Walks.{MakesPlain, MakesServe, MakesArrive, MakesTake, Makes, Walk}
 use Rattle.step_laws.proofs.OneArrival.{one_outcome}
 
 -- the pool lies below the kernel's entries
 pub pool_low : (layout : Layout) (a : ℕ) → IsRight layout → InPool layout a → a < 0xF000
 pool_low layout a right pool =
-    let to = pool.to in
-    let below = right.pool_below_kernel in
     omega arith
 
 pub entry_high : (k : Kernel) → CanServe k → 0xF000 ≤ k.mote.cpu.pc
@@ -64,11 +62,10 @@ one_service x y z stops stops' line line' one other =
 
 pub arrival_or_interrupt : (x y z : State) (target ops : ℕ) (made stops : Bool) → MakesArrive x target made ops y → MakesTake x stops z → ⊥
 arrival_or_interrupt x y z target ops made stops arrival interrupt =
-    let same : arrival.owed ≡ interrupt.owed = same_Some arrival.owed interrupt.owed (sym arrival.owes ∙ interrupt.owes) in
-    let taken = ap (is_taken_at x) same ∙ interrupt.taken_now in
     absurd (cc)
 
-pub one_arrival : (x y z : State) (target target' ops ops' : ℕ) (made made' : Bool) → MakesArrive x target made ops y → MakesArrive x target' made' ops' z → (target ≡ target') × (made ≡ made') × (ops ≡ ops') × (y ≡ z)
+pub one_arrival : (x y z : State) (target target' ops ops' : ℕ) (made made' : Bool) → MakesArrive x target made ops y → MakesArrive x target' made' ops' z
+    → (target ≡ target') × (made ≡ made') × (ops ≡ ops') × (y ≡ z)
 one_arrival x y z target target' ops ops' made made' one other =
     let owed = same_Some one.owed other.owed (sym one.owes ∙ other.owes) in
     let there : target ≡ target' = one.at ∙ ap (λ (o : Awaited). o.target) owed ∙ sym other.at in

@@ -10,7 +10,7 @@ use Rattle.avr_isa.specs.Addresses.{relative}
 use Rattle.avr_exec.specs.Registers.{is_own, register}
 use Rattle.avr_exec.specs.Asks.{ask_of, load_of, store_of}
 use Rattle.avr_exec.specs.Execution.{is_executed}
-use Rattle.avr_exec.specs.Likeness.{is_straight, is_transfer, placed}
+use Rattle.avr_exec.specs.Likeness.{is_straight, is_transfer}
 use Rattle.nat_template.specs.declared.shapes.TemplateShape.TheVariants.{Native, Mem, Jump, Skip, SelfJump, Fault}
 use Rattle.nat_template.specs.Shapes.{shape_of_form, is_stack_pointer, can_modify}
 use Rattle.mote_core.specs.Conditions.{is_device_ask}
@@ -73,31 +73,3 @@ native_form pc (forms.Bclr b) cpu is = record { straight = refl; runs = refl; tr
 native_form pc forms.Break cpu is = record { straight = refl; runs = refl; transfer = refl; asks = refl }
 native_form pc forms.Wdr cpu is = record { straight = refl; runs = refl; transfer = refl; asks = refl }
 native_form pc _ cpu is = absurd (cc)
-
--- at another pc and SP the same is asked
-pub ask_straight : (form : Form) (cpu : Cpu) (p q : ℕ) → is_straight form ≡ true → ask_of form (placed cpu p q) ≡ ask_of form cpu
-unfolding ask_of is_straight
-ask_straight forms.Nop cpu p q h = refl
-ask_straight (forms.Movw d r) cpu p q h = refl
-ask_straight (forms.Muls d r) cpu p q h = refl
-ask_straight (forms.Product op d r) cpu p q h = refl
-ask_straight (forms.Two op d r) cpu p q h = refl
-ask_straight (forms.Imm op d k) cpu p q h = refl
-ask_straight (forms.Word op l k) cpu p q h = refl
-ask_straight (forms.One op d) cpu p q h = refl
-ask_straight forms.Lpm0 cpu p q h = refl
-ask_straight forms.Elpm0 cpu p q h = refl
-ask_straight (forms.Lpm d inc) cpu p q h = refl
-ask_straight (forms.Elpm d true) cpu p q h = refl
-ask_straight (forms.Elpm d false) cpu p q h = refl
-ask_straight (forms.InIo d a) cpu p q h = refl
-ask_straight (forms.OutIo a r) cpu p q h = refl
-ask_straight (forms.Cbi a b) cpu p q h = refl
-ask_straight (forms.Sbi a b) cpu p q h = refl
-ask_straight (forms.Bld d b) cpu p q h = refl
-ask_straight (forms.Bst d b) cpu p q h = refl
-ask_straight (forms.Bset b) cpu p q h = refl
-ask_straight (forms.Bclr b) cpu p q h = refl
-ask_straight forms.Break cpu p q h = refl
-ask_straight forms.Wdr cpu p q h = refl
-ask_straight _ cpu p q h = absurd (cc)

@@ -4,12 +4,11 @@ use Rattle.std.specs.Prelude.{if◌then◌else◌, None, ◌&&◌, ◌==◌}
 use Rattle.avr_isa.specs.Crossing.{is_crossing}
 use Rattle.sram_layout.specs.Bytes.{byte_at}
 use Rattle.sram_layout.specs.Cells.{count_cell}
-use Rattle.nat_template.specs.declared.piece.Piece.{Piece}
 use Rattle.nat_template.specs.Stubs.{stub}
-use Rattle.page_draft.specs.Standing.{Stands, size}
+use Rattle.page_draft.specs.Standing.{size}
 use Rattle.page_draft.specs.Runs.{template_at, closing_at, next_of, is_closed, shape_at}
 use Rattle.preempt_count.specs.Counting.{count_after, count_over}
-use Rattle.step_laws.proofs.Stretches.{IsStretch, stretch_behind, stretch_closed}
+use Rattle.step_laws.proofs.Stretches.{stretch_behind, stretch_closed}
 use Rattle.step_laws.specs.Links.{Links}
 use Rattle.step_laws.specs.Settings.{IsIdle, IsRunning}
 use Rattle.step_laws.specs.States.{State, mote_of, InPool}
@@ -20,7 +19,6 @@ use Rattle.step_laws.specs.Walks.{WalkWithin}
 use Rattle.step_laws.specs.Numbers.{moved}
 use Rattle.step_laws.proofs.SameProgram.{same_program}
 use Rattle.step_laws.proofs.StubLaw.{stub_law}
-use Rattle.nat_page.specs.Links.{EachLink}
 use Rattle.nat_page.specs.Entered.{IsPlace, Behind, Next, Closed, StandsIn}
 use Rattle.flash_words.specs.Layouts.{IsRight}
 
@@ -50,7 +48,8 @@ by_way more links y t c crosses way = record {
   left = way.left;
 }
 
-onward_by : (links : Links) (y : State) (image : List ℕ) (a v : ℕ) → IsRunning y → IsIdle y.kernel → IsRight y.kernel.layout → InPool y.kernel.layout v → Behind links.enters links.marks y.kernel.layout image (mote_of y).flash.words a v
+onward_by : (links : Links) (y : State) (image : List ℕ) (a v : ℕ) → IsRunning y → IsIdle y.kernel → IsRight y.kernel.layout → InPool y.kernel.layout v
+    → Behind links.enters links.marks y.kernel.layout image (mote_of y).flash.words a v
     → 0 < size (template_at image a) → 0 < size (stub a (next_of image a)) → is_closed (shape_at image a) ≡ true → (mote_of y).cpu.pc ≡ v + size (template_at image a)
     → Onward 0 links y (next_of image a) (count_over y.kernel.quantum a (next_of image a) (byte_at (mote_of y).sram count_cell)) (is_crossing a (next_of image a))
 unfolding lines_of
@@ -77,16 +76,14 @@ onward_by links y image a v free fit right pool (Closed last) some some' closed 
     let n = size (template_at image a) in
     let closing : closing_at image a ≡ stub a (next_of image a) = ap (λ b. if b then stub a (next_of image a) else []) closed in
     let words = (mote_of y).flash.words in
-    let P : List Piece → Type 0 = λ pieces. Stands links.enters words (v + n) pieces in
-    let Q : List Piece → Type 0 = λ pieces. IsStretch y.kernel.layout words v (n + size pieces) in
-    let row' = subst Q closing (stretch_closed links y.kernel.layout image words a v right pool last) in
+    let row' = rw closing at (stretch_closed links y.kernel.layout image words a v right pool last) in
     let begins : ¬ IsPlace y.kernel.layout words (v + n) = row'.inner n some (omega arith) in
     by_way 0 links y (next_of image a) _ _
     (stub_law links y a (next_of image a) (v + n) false free
-    (stretch_behind y.kernel.layout words v n (size (stub a (next_of image a))) row' some some') (subst P closing last.closing)
-    (subst (λ (pieces : List Piece). EachLink links.marks (v + n) pieces) closing last.linked) fit at begins)
+    (stretch_behind y.kernel.layout words v n (size (stub a (next_of image a))) row' some some') (rw closing at last.closing) (rw closing at last.linked) fit at begins)
 
-pub onward : (links : Links) (y : State) (image : List ℕ) (a v : ℕ) → IsRunning y → IsIdle y.kernel → IsRight y.kernel.layout → StandsIn links.enters links.marks y.kernel.layout image (mote_of y).flash.words a v
+pub onward : (links : Links) (y : State) (image : List ℕ) (a v : ℕ) → IsRunning y → IsIdle y.kernel → IsRight y.kernel.layout
+    → StandsIn links.enters links.marks y.kernel.layout image (mote_of y).flash.words a v
     → 0 < size (template_at image a) → 0 < size (stub a (next_of image a)) → is_closed (shape_at image a) ≡ true → (mote_of y).cpu.pc ≡ v + size (template_at image a)
     → Onward 0 links y (next_of image a) (count_over y.kernel.quantum a (next_of image a) (byte_at (mote_of y).sram count_cell)) (is_crossing a (next_of image a))
 onward links y image a v free fit right code some some' closed at = onward_by links y image a v free fit right code.pool code.behind some some' closed at

@@ -1,5 +1,5 @@
 -- What the program sees stays where its parts of the mote stay.
-use Rattle.std.proofs.Common.{ℕ, ◌≡◌, ◌+◌, ◌*◌, ◌≤◌, ◌∙◌, length, List, sym, ap, ap₂, arith, subst, refl}
+use Rattle.std.proofs.Common.{ℕ, ◌≡◌, ◌+◌, ◌*◌, ◌≤◌, ◌∙◌, length, List, ap, ap₂, arith, refl}
 use Rattle.std.specs.Prelude.{◌≢◌, Bool}
 use Rattle.sram_layout.specs.Bytes.{byte_at, data_word_at}
 use Rattle.mote_core.specs.declared.mote.Mote.{Mote}
@@ -25,18 +25,23 @@ pub record SameProgram (m n : Mote) : Type 0 where
   pub devices : n.devices ≡ m.devices
   pub swap : n.swap ≡ m.swap
 
+-- a byte, by one condition
+pub same_byte : {m n : Mote} → SameProgram m n → (b : ℕ) → (vsp_cell ≤ b) × (b ≢ 0x011E) × (b ≢ 0x011F) → byte_at n.sram b ≡ byte_at m.sram b
+same_byte same b apart = same.bytes b apart.0 apart.1 apart.2
+
 same_paging : (m n : Mote) → SameProgram m n → SamePaging m.sram n.sram
 same_paging m n same = record {
   size = same.size;
-  cells = λ b from to. same.bytes b (omega arith) (λ e. omega arith) (λ e. omega arith);
-  tables = λ b from to. same.bytes b (omega arith) (λ e. omega arith) (λ e. omega arith);
+  cells = λ b from to. same_byte same b (omega arith);
+  tables = λ b from to. same_byte same b (omega arith);
 }
 
 same_stack : (m n : Mote) → SameProgram m n → data_word_at n.sram vsp_cell ≡ data_word_at m.sram vsp_cell
 unfolding data_word_at
-same_stack m n same = ap₂ (λ low high. low + 256 * high) (same.bytes vsp_cell (omega arith) (λ e. omega arith) (λ e. omega arith)) (same.bytes (vsp_cell + 1) (omega arith) (λ e. omega arith) (λ e. omega arith))
+same_stack m n same = ap₂ (λ low high. low + 256 * high) (same_byte same vsp_cell (omega arith)) (same_byte same (vsp_cell + 1) (omega arith))
 
-pub flat_parts : (r r' : List ℕ) (s s' sp sp' a steps crossings : ℕ) (memory memory' : List ℕ) (devices devices' : Devices) (has has' : List Bool) → r ≡ r' → s ≡ s' → sp ≡ sp' → memory ≡ memory' → devices ≡ devices' → has ≡ has'
+pub flat_parts : (r r' : List ℕ) (s s' sp sp' a steps crossings : ℕ) (memory memory' : List ℕ) (devices devices' : Devices) (has has' : List Bool) → r ≡ r' → s ≡ s' → sp ≡ sp' → memory ≡ memory'
+    → devices ≡ devices' → has ≡ has'
     → ◌≡◌ {A = FlatState} (record { cpu = record { r = r; sreg = s; sp = sp; pc = a }; memory = memory; devices = devices; pages = has; steps = steps; crossings = crossings })
     (record { cpu = record { r = r'; sreg = s'; sp = sp'; pc = a }; memory = memory'; devices = devices'; pages = has'; steps = steps; crossings = crossings })
 flat_parts r r' s s' sp sp' a steps crossings memory memory' devices devices' has has' er es ep em ed eh =
@@ -50,13 +55,12 @@ flat_parts r r' s s' sp sp' a steps crossings memory memory' devices devices' ha
 pub flat_same : (k l : Kernel) (a steps crossings : ℕ) → SameProgram k.mote l.mote → state_at l a steps crossings ≡ state_at k a steps crossings
 flat_same k l a steps crossings same =
     let paging = same_paging k.mote l.mote same in
-    let memory : vmem l.mote.sram l.mote.swap ≡ vmem k.mote.sram k.mote.swap = ap (vmem l.mote.sram) same.swap ∙ vmem_same k.mote.sram l.mote.sram k.mote.swap paging (λ b from to. same.bytes b (omega arith) (λ e. omega arith) (λ e. omega arith)) in
+    let memory : vmem l.mote.sram l.mote.swap ≡ vmem k.mote.sram k.mote.swap = ap (vmem l.mote.sram) same.swap
+    ∙ vmem_same k.mote.sram l.mote.sram k.mote.swap paging (λ b from to. same_byte same b (omega arith)) in
     flat_parts _ _ _ _ _ _ a steps crossings _ _ _ _ _ _ same.registers same.status (same_stack k.mote l.mote same) memory same.devices (pages_same k.mote.sram l.mote.sram paging)
 
 pub paged_after : (m n : Mote) → SameProgram m n → IsPaged m.sram m.swap → IsPaged n.sram n.swap
-paged_after m n same paged =
-    let P : _ → Type 0 = λ w. IsPaged n.sram w in
-    subst P (sym same.swap) (paged_same m.sram n.sram m.swap (same_paging m n same) paged)
+paged_after m n same paged = rw same.swap (paged_same m.sram n.sram m.swap (same_paging m n same) paged)
 
 pub same_on : (m n o : Mote) → SameProgram m n → SameProgram n o → SameProgram m o
 same_on m n o first then = record {
@@ -70,5 +74,11 @@ same_on m n o first then = record {
   swap = then.swap ∙ first.swap;
 }
 
+-- SRAM, SP and the pc alone may differ
+pub same_sram : (m : Mote) (sp pc : ℕ) (ram : List ℕ) → sp ≡ 0x011F → length ram ≡ length m.sram → ((b : ℕ) → (vsp_cell ≤ b) × (b ≢ 0x011E) × (b ≢ 0x011F) → byte_at ram b ≡ byte_at m.sram b)
+    → SameProgram m (record m { cpu = record m.cpu { sp = sp; pc = pc }; sram = ram })
+same_sram m sp pc ram top size bytes =
+    record { registers = refl; status = refl; top = top; size = size; bytes = λ b low one other. bytes b (low, one, other); flash = refl; devices = refl; swap = refl }
+
 pub same_program : (m : Mote) → m.cpu.sp ≡ 0x011F → SameProgram m m
-same_program m top = record { registers = refl; status = refl; top = top; size = refl; bytes = λ b low apart apart'. refl; flash = refl; devices = refl; swap = refl }
+same_program m top = same_sram m m.cpu.sp m.cpu.pc m.sram top refl (λ b apart. refl)

@@ -17,7 +17,8 @@ ServicesAreOne = (x y z : State) (stops stops' : Bool) (line line' : Option Line
 -- an arrival has one target, makes a page or not, tries so many operations on flash, and has one next state: so which page
 -- it takes, and that it is RING's where all are used, is settled
 abbrev pub ArrivalsAreOne : Type 0
-ArrivalsAreOne = (x y z : State) (target target' ops ops' : ℕ) (made made' : Bool) → MakesArrive x target made ops y → MakesArrive x target' made' ops' z → (target ≡ target') × (made ≡ made') × (ops ≡ ops') × (y ≡ z)
+ArrivalsAreOne = (x y z : State) (target target' ops ops' : ℕ) (made made' : Bool) → MakesArrive x target made ops y → MakesArrive x target' made' ops' z
+    → (target ≡ target') × (made ≡ made') × (ops ≡ ops') × (y ≡ z)
 
 -- an interrupt stops the program or not, and has one next state
 abbrev pub InterruptsAreOne : Type 0

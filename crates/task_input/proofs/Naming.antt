@@ -6,8 +6,8 @@ use denote.Ref.{Bor}
 use Rattle.std.proofs.lemmas.Bool.Decides.{nat_tests}
 use Rattle.std.proofs.lemmas.List.FromFn.{length-range_with_len, get_or-range_with_len}
 use Rattle.std.proofs.lemmas.List.Elements.{All-head, All-tail}
-use Rattle.line_writer.specs.Pieces.{task_text}
-use Rattle.line_reader.proofs.FaultLaws.{not_found}
+use Rattle.text_lines.specs.Pieces.{task_text}
+use Rattle.text_lines.proofs.FaultLaws.{not_found}
 use Rattle.task_input.specs.Scripts.{at_word, own_line, task_of}
 use Rattle.task_input.proofs.OwnLines.{OwnWay, Not, Own, own_named, own_way}
 

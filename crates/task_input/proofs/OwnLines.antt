@@ -2,10 +2,10 @@
 use Rattle.std.proofs.Common.{◌≡◌, ℕ, ◌≤◌, List, [], ◌∷◌, ◌++◌, length, arith, ap, refl, subst, ◌∙◌}
 use Rattle.std.specs.Prelude.{Option, Some, None, option_map, unwrap_or}
 use Rattle.std.proofs.lemmas.List.{length-append}
-use Rattle.line_reader.specs.Cutting.{Lacks}
-use Rattle.line_reader.specs.Stripping.{stripped}
-use Rattle.line_reader.proofs.StripLaws.{stripped_front, front_stripped}
-use Rattle.line_writer.specs.Pieces.{task_text}
+use Rattle.text_lines.specs.Cutting.{Lacks}
+use Rattle.text_lines.specs.Stripping.{stripped}
+use Rattle.text_lines.proofs.StripLaws.{stripped_front, front_stripped}
+use Rattle.text_lines.specs.Pieces.{task_text}
 use Rattle.task_input.specs.Scripts.{at_word, own_line}
 use Rattle.task_input.specs.Reading.{ended}
 

@@ -5,9 +5,9 @@ use Rattle.std.specs.List.{onto_first}
 use Rattle.std.proofs.lemmas.List.{append-nil, append_assoc, get_or_push, length-append, length_push, take_at, length-take}
 use Rattle.std.proofs.lemmas.List.Elements.{All-head, All-tail, All-nil, All-cons}
 use Rattle.std.proofs.lemmas.Bool.Decides.{nat_tests}
-use Rattle.line_reader.specs.Lines.{pieces_of, without_last, line_of, lines_of}
-use Rattle.line_reader.specs.Cutting.{Lacks, IsCut}
-use Rattle.line_reader.proofs.TextLaws.{pieces_of-line, feed_off}
+use Rattle.text_lines.specs.Lines.{pieces_of, without_last, line_of, lines_of}
+use Rattle.text_lines.specs.Cutting.{Lacks, IsCut}
+use Rattle.text_lines.proofs.TextLaws.{pieces_of-line, feed_off}
 use Rattle.task_input.specs.Scripts.{own_line}
 use Rattle.task_input.specs.Reading.{ended, own_lines, text_of}
 use Rattle.task_input.proofs.OwnLines.{own_lacks, own_short}

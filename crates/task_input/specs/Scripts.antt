@@ -6,10 +6,10 @@ use Rattle.input_script.specs.declared.fault.ScriptFault.TheVariants.{Form}
 use Rattle.input_script.specs.Grammar.{is_skipped}
 use Rattle.input_script.specs.Script as script
 use Rattle.input_script.specs.Script.{Schedule, nothing}
-use Rattle.line_reader.specs.Lines.{lines_of}
-use Rattle.line_reader.specs.Faults.{after_lines, first_fault}
-use Rattle.line_reader.specs.Stripping.{stripped}
-use Rattle.line_writer.specs.Pieces.{task_text}
+use Rattle.text_lines.specs.Lines.{lines_of}
+use Rattle.text_lines.specs.Faults.{after_lines, first_fault}
+use Rattle.text_lines.specs.Stripping.{stripped}
+use Rattle.text_lines.specs.Pieces.{task_text}
 
 -- what an event's line begins with
 abbrev pub at_word : List ℕ

@@ -3,9 +3,9 @@
 ghost use Rattle.std.specs.Prelude.{◌≡◌, ◌≤◌, ◌↔◌, ℕ, IsTrue, IfOk, MatchOption};
 ghost use Rattle.task_input.specs.Images.{IsApart, IsMisplaced, IsFirstMisplaced, task_words};
 
+use base::NoMemory;
 use flash_words::BLANK;
 use hex_image::Image;
-use no_memory::NoMemory;
 use std::alloc::Global;
 
 /// The words of a task's quarter.

@@ -1,16 +1,16 @@
 //! The lines of a script of several tasks, and the text that each task has of it.
 
 ghost use Rattle.std.specs.Prelude.{◌≡◌, ◌≢◌, ◌<◌, ◌≤◌, ◌||◌, ◌++◌, ℕ, List, length, is_some, option_map, IfOk, OnOk, MatchOption};
-ghost use Rattle.line_reader.specs.Lines.{lines_of};
-ghost use Rattle.line_writer.specs.Pieces.{task_text};
+ghost use Rattle.text_lines.specs.Lines.{lines_of};
+ghost use Rattle.text_lines.specs.Pieces.{task_text};
 ghost use Rattle.input_script.specs.declared.fault.ScriptFault.TheVariants.{Form};
 ghost use Rattle.input_script.specs.Grammar.{is_skipped};
 ghost use Rattle.task_input.specs.Scripts.{at_word, own_line, task_of};
 ghost use Rattle.task_input.specs.Reading.{ended, own_lines, first_formless as first_formless_of};
 
-use line_reader::first_line;
-use no_memory::NoMemory;
+use base::NoMemory;
 use std::alloc::Global;
+use text_lines::first_line;
 
 /// How many bytes name a line's task.
 const NAME_LENGTH: usize = 7;

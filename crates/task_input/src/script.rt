@@ -1,7 +1,7 @@
 //! The scripts of all tasks.
 
 ghost use Rattle.std.specs.Prelude.{◌≡◌, ◌≤◌, ◌<◌, ◌⊎◌, ℕ, [], List, All, length, IfOk, MatchResult, Some, Err};
-ghost use Rattle.line_reader.specs.Lines.{lines_of};
+ghost use Rattle.text_lines.specs.Lines.{lines_of};
 ghost use Rattle.input_script.specs.declared.fault.ScriptFault.{ScriptFault};
 ghost use Rattle.input_script.specs.declared.fault.ScriptError.{ScriptError};
 ghost use Rattle.input_script.specs.Script.{Schedule};

@@ -1,5 +1,5 @@
 -- Tasks in turn all end.
-use Rattle.std.proofs.Common.{◌≡◌, ℕ, zero, suc, ◌+◌, ◌-◌, ◌<◌, ◌≤◌, Bool, true, false, cond, not, List, [], ◌∷◌, ◌++◌, length, get_or, arith, ap, ◌∙◌, sym, refl, subst, Option, Some, None, inl, inr}
+use Rattle.std.proofs.Common.{◌≡◌, ℕ, zero, suc, ◌+◌, ◌-◌, ◌<◌, ◌≤◌, Bool, true, false, cond, not, List, [], ◌∷◌, ◌++◌, length, get_or, arith, ap, ◌∙◌, sym, refl, Option, Some, None, inl, inr}
 use Rattle.std.specs.Prelude.{All, slice_get, slice_set, is_some, sum_by}
 use Rattle.std.specs.List.{range_with_len, find}
 use Rattle.std.proofs.lemmas.List.{get_or-map}
@@ -9,33 +9,33 @@ use Rattle.std.proofs.lemmas.List.Sums.{sum_by-cons}
 use Rattle.std.proofs.lemmas.Option.{get_or_from_slice_get, slice_get-get_or, slice_get_within}
 use Rattle.std.proofs.lemmas.Bool.{cases_eq, cases_lt, not-true}
 use Rattle.flat_machine.specs.FlatMachine.{End}
-use Rattle.task_turns.specs.Turns.{Player, Turns, After, changed_to, changed, others, has_ended, ends_of, with_player, once, with_told, go_on, tries, turns, HaveEnded}
+use Rattle.task_turns.specs.Turns.{Player, Turns, After, changed_to, others, has_ended, ends_of, with_player, once, with_told, go_on, tries, turns, HaveEnded}
 use Rattle.task_turns.proofs.Isolation.{weight, weight_going, weight_ended, IsOnce, once_follows, set_here}
-use Rattle.base_laws.proofs.Searches.{found_first}
+use Rattle.base.proofs.Searches.{found_first}
 
 -- ---- the next task
 
 pub found_holds : (P : ℕ → Type 0) (f : ℕ → Bool) (xs : List ℕ) (k : ℕ) → All P xs → find f xs ≡ Some k → P k × (f k ≡ true)
 found_holds P f [] k all is = absurd (cc)
 found_holds P f (x ∷ xs) k all is = elim (found_first (f x) x k (find f xs) is) [
-  | inl both ↦ (subst P both.1 (All-head P x xs all), ap f (sym both.1) ∙ both.0)
+  | inl both ↦ (rw both.1 at (All-head P x xs all), ap f (sym both.1) ∙ both.0)
   | inr later ↦ found_holds P f xs k (All-tail P x xs all) later
 ]
 
-none_by : (test : Bool) (x : ℕ) (rest : Option ℕ) → cond test (Some x) rest ≡ None → (test ≡ false) × (rest ≡ None)
-none_by true x rest is = absurd (cc)
-none_by false x rest is = (refl, is)
+none_by : (test : Bool) (x : ℕ) {rest : Option ℕ} → cond test (Some x) rest ≡ None → (test ≡ false) × (rest ≡ None)
+none_by true x is = absurd (cc)
+none_by false x is = (refl, is)
 
 none_passes : (f : ℕ → Bool) (xs ys : List ℕ) (k : ℕ) → find f (xs ++ ys) ≡ None → k < length xs → f (get_or xs k 0) ≡ false
 none_passes f [] ys k is below = absurd (omega arith)
-none_passes f (x ∷ xs) ys zero is below = (none_by (f x) x (find f (xs ++ ys)) is).0
-none_passes f (x ∷ xs) ys (suc k) is below = none_passes f xs ys k (none_by (f x) x (find f (xs ++ ys)) is).1 (omega arith)
+none_passes f (x ∷ xs) ys zero is below = (none_by (f x) x is).0
+none_passes f (x ∷ xs) ys (suc k) is below = none_passes f xs ys k (none_by (f x) x is).1 (omega arith)
 
 none_behind : (f : ℕ → Bool) (xs ys : List ℕ) (k : ℕ) → find f (xs ++ ys) ≡ None → k < length ys → f (get_or ys k 0) ≡ false
 none_behind f [] [] k is below = absurd (omega arith)
-none_behind f [] (y ∷ ys) zero is below = (none_by (f y) y (find f ys) is).0
-none_behind f [] (y ∷ ys) (suc k) is below = none_behind f [] ys k (none_by (f y) y (find f ys) is).1 (omega arith)
-none_behind f (x ∷ xs) ys k is below = none_behind f xs ys k (none_by (f x) x (find f (xs ++ ys)) is).1 below
+none_behind f [] (y ∷ ys) zero is below = (none_by (f y) y is).0
+none_behind f [] (y ∷ ys) (suc k) is below = none_behind f [] ys k (none_by (f y) y is).1 (omega arith)
+none_behind f (x ∷ xs) ys k is below = none_behind f xs ys k (none_by (f x) x is).1 below
 
 pub in_range : (a n m : ℕ) → a + n ≤ m → All (λ k. k < m) (range_with_len a n)
 in_range a n m fits = λ k d below.
@@ -57,7 +57,8 @@ pub record Ready (t : Turns) : Type 0 where
   pub there : slice_get t.players t.running ≡ Some p
   pub over : is_some p.end ≡ true → HaveEnded t
 
-all_by : (t : Turns) (p : Player) → slice_get t.players t.running ≡ Some p → find (λ task. not (has_ended (ends_of t) task)) (others t.running (length t.players)) ≡ None → is_some p.end ≡ true → HaveEnded t
+all_by : (t : Turns) (p : Player) → slice_get t.players t.running ≡ Some p → find (λ task. not (has_ended (ends_of t) task)) (others t.running (length t.players)) ≡ None → is_some p.end ≡ true
+    → HaveEnded t
 all_by t p there none over = λ k q here.
     let f : ℕ → Bool = λ task. not (has_ended (ends_of t) task) in
     let n = length t.players in
@@ -85,15 +86,15 @@ all_by t p there none over = λ k q here.
       ]
     ]
 
-true_false : (b : Bool) → b ≡ true → b ≡ false → ⊥
-true_false b holds fails = let both : ◌≡◌ {A = Bool} true false = sym holds ∙ fails in absurd (cc)
-
-ready_by : (t : Turns) (p : Player) (found : Option ℕ) → slice_get t.players t.running ≡ Some p → find (λ task. not (has_ended (ends_of t) task)) (others t.running (length t.players)) ≡ found → Ready (changed_to t found)
+ready_by : (t : Turns) (p : Player) (found : Option ℕ) → slice_get t.players t.running ≡ Some p → find (λ task. not (has_ended (ends_of t) task)) (others t.running (length t.players)) ≡ found
+    → Ready (changed_to t found)
 ready_by t p None there is = record { p = p; there = there; over = λ ended. all_by t p there is ended }
 ready_by t p (Some k) there is =
     let n = length t.players in
     let inside = slice_get_within t.players t.running p there in
-    let all : All (λ j. j < n) (others t.running (length t.players)) = All-append (λ j. j < n) (range_with_len (t.running + 1) (n - (t.running + 1))) (range_with_len 0 t.running) (in_range (t.running + 1) (n - (t.running + 1)) n (omega arith)) (in_range 0 t.running n (omega arith)) in
+    let all : All (λ j. j < n) (others t.running (length t.players)) =
+    All-append (λ j. j < n) (range_with_len (t.running + 1) (n - (t.running + 1))) (range_with_len 0 t.running) (in_range (t.running + 1) (n - (t.running + 1)) n (omega arith))
+    (in_range 0 t.running n (omega arith)) in
     let holds = found_holds (λ j. j < n) (λ task. not (has_ended (ends_of t) task)) (others t.running (length t.players)) k all is in
     let q = get_or t.players k p in
     let here : slice_get t.players k ≡ Some q = slice_get-get_or t.players k p holds.0 in
@@ -102,11 +103,8 @@ ready_by t p (Some k) there is =
       there = here;
       over = λ ended.
           let not_yet : is_some q.end ≡ false = sym (ended_at t k q here) ∙ not-true (has_ended (ends_of t) k) holds.1 in
-          absurd (true_false (is_some q.end) ended not_yet);
+          absurd (let both : ◌≡◌ {A = Bool} true false = sym ended ∙ not_yet in absurd (cc));
     }
-
-ready_changed : (t : Turns) (p : Player) → slice_get t.players t.running ≡ Some p → Ready (changed t)
-ready_changed t p there = ready_by t p (find (λ task. not (has_ended (ends_of t) task)) (others t.running (length t.players))) there refl
 
 none_ended : (e : Option End) → e ≡ None → is_some e ≡ true → ⊥
 none_ended None is ended = cc
@@ -116,8 +114,9 @@ pub ready_once : (t : Turns) (p : Player) (a : After) → slice_get t.players t.
 ready_once t p a there one =
     let here : slice_get (with_player t one.q).players t.running ≡ Some one.q = set_here t.players t.running p one.q there in
     elim one.next [
-      | inl is ↦ subst Ready (sym is) (ready_changed (with_player t one.q) one.q here)
-      | inr both ↦ subst Ready (sym both.0) (record { p = one.q; there = here; over = λ ended. absurd (none_ended one.q.end both.1 ended) })
+      | inl is ↦ rw is (ready_by (with_player t one.q) one.q (find (λ task. not (has_ended (ends_of (with_player t one.q)) task))
+          (others (with_player t one.q).running (length (with_player t one.q).players))) here refl)
+      | inr both ↦ rw both.0 (record { p = one.q; there = here; over = λ ended. absurd (none_ended one.q.end both.1 ended) })
     ]
 
 -- ---- how many tries there may be
@@ -176,8 +175,7 @@ weight_most p (Some end) is = omega (arith, weight_ended p end is)
 pub still_sum : (players : List Player) → still players ≤ sum_by (λ p. p.left + 1) players
 unfolding still
 still_sum [] = omega arith
-still_sum (p ∷ players) =
-    omega (arith, still_sum players, weight_most p p.end refl, sum_by-cons (λ (q : Player). q.left + 1) p players)
+still_sum (p ∷ players) = omega (arith, still_sum players, weight_most p p.end refl, sum_by-cons (λ (q : Player). q.left + 1) p players)
 
 -- each task ends, where the one that is stepped first has not ended
 pub turns_end : (t : Turns) (p : Player) → slice_get t.players t.running ≡ Some p → p.end ≡ None → HaveEnded (turns t).turns

@@ -1,5 +1,5 @@
 -- Tasks in turn have nothing to do with one another.
-use Rattle.std.proofs.Common.{◌≡◌, ℕ, zero, suc, ◌+◌, ◌-◌, ◌<◌, ◌≤◌, ◌⊎◌, eqb, Bool, true, false, cond, List, [], ◌∷◌, ◌++◌, arith, ap, ap₂, ◌∙◌, sym, refl, subst, Option, Some, None, inl, inr}
+use Rattle.std.proofs.Common.{◌≡◌, ℕ, zero, suc, ◌+◌, ◌-◌, ◌<◌, ◌≤◌, ◌⊎◌, eqb, Bool, true, false, cond, List, [], ◌∷◌, ◌++◌, arith, ap, ap₂, ◌∙◌, sym, refl, Option, Some, None, inl, inr}
 use Rattle.std.specs.Prelude.{◌≢◌, slice_get, slice_set, is_some}
 use Rattle.std.proofs.lemmas.List.{append_assoc, append-nil}
 use Rattle.std.proofs.lemmas.Bool.{cases_eq}
@@ -7,7 +7,8 @@ use Rattle.std.proofs.lemmas.Bool.Decides.{nat_tests}
 use Rattle.mote_devices.specs.declared.line.Line.{Line}
 use Rattle.flat_machine.specs.FlatMachine.{Program, is_inside, Moment, End, Spent, Wild, Next, Ends, On, next_of, Run, run, ended, with_line}
 use Rattle.flat_machine.proofs.MachineLaws.{run_wild, run_spent, run_stops, run_goes}
-use Rattle.task_turns.specs.Turns.{Player, Turns, Told, Shown, Wrote, Stops, is_checkpoint, rests_by, rests, played_by, tried_by, changed_to, changed, with_player, told as told_by, told_line, After, stopped, at_checkpoint, stepped, with_told, once_by, once, go_on, tries, alone, shown_by, own_told, Follows, Ended, Going, Over, IsApartFromOthers}
+use Rattle.task_turns.specs.Turns.{Player, Turns, Told, Shown, Wrote, Stops, is_checkpoint, rests_by, rests, played_by, tried_by, changed_to, changed, with_player, told as told_by, told_line, After}
+use Rattle.task_turns.specs.Turns.{stopped, at_checkpoint, stepped, with_told, once_by, once, go_on, tries, alone, shown_by, own_told, Follows, Ended, Going, Over, IsApartFromOthers}
 
 -- a task at rest, or one that has a step left and stands inside its image
 data RestWay (program : Program) (m : Moment) (left : ℕ) : Option End → Type 0 where
@@ -18,12 +19,9 @@ some_left : (n : ℕ) → eqb (suc n) 0 ≡ false
 some_left n = grind (arith, nat_tests)
 
 rest_way : (program : Program) (m : Moment) (left : ℕ) (inside : Bool) → is_inside program m.now.cpu.pc ≡ inside → RestWay program m left (rests_by (run program m 0).end left)
-rest_way program m left false is =
-    subst (λ (r : Run). RestWay program m left (rests_by r.end left)) (sym (run_wild program m 0 is)) (Rests (Wild m.now.cpu.pc) (run_wild program m left is))
-rest_way program m zero true is =
-    subst (λ (r : Run). RestWay program m zero (rests_by r.end zero)) (sym (run_spent program m is)) (Rests Spent (run_spent program m is))
-rest_way program m (suc n) true is =
-    subst (λ (r : Run). RestWay program m (suc n) (rests_by r.end (suc n))) (sym (run_spent program m is)) (subst (λ b. RestWay program m (suc n) (cond b (Some Spent) None)) (sym (some_left n)) (Steps n refl is))
+rest_way program m left false is = rw (run_wild program m 0 is) (Rests (Wild m.now.cpu.pc) (run_wild program m left is))
+rest_way program m zero true is = rw (run_spent program m is) (Rests Spent (run_spent program m is))
+rest_way program m (suc n) true is = rw ((run_spent program m is), (some_left n)) (Steps n refl is)
 
 way_of : (p : Player) → RestWay p.program p.moment p.left (rests p)
 way_of p = rest_way p.program p.moment p.left (is_inside p.program p.moment.now.cpu.pc) refl
@@ -48,8 +46,7 @@ append_cond false one a b = refl
 
 own_append : (i : ℕ) (a b : List Told) → own_told i (a ++ b) ≡ own_told i a ++ own_told i b
 own_append i [] b = refl
-own_append i (one ∷ a) b =
-    ap (λ l. cond (eqb one.task i) (one.shown ∷ l) l) (own_append i a b) ∙ append_cond (eqb one.task i) one.shown (own_told i a) (own_told i b)
+own_append i (one ∷ a) b = ap (λ l. cond (eqb one.task i) (one.shown ∷ l) l) (own_append i a b) ∙ append_cond (eqb one.task i) one.shown (own_told i a) (own_told i b)
 
 line_shown : Option Line → List Shown
 line_shown None = []
@@ -110,14 +107,18 @@ over_now t p q line end going is = record {
   q = record q { end = Some end };
   players = by_change (with_player t (record q { end = Some end })) _;
   follows = Over going (ap (λ e. Some e) (sym (ap (λ (r : Run). r.end) is ∙ end_line line (ended end q.moment)))) (sym (ap (λ (r : Run). r.state) is ∙ state_line line (ended end q.moment)))
-      (ap shown_by is ∙ shown_line line (ended end q.moment) ∙ sym (own_append t.running (told_line t line) (told_by t (Stops end q.moment.now.steps q.moment.now.crossings)) ∙ ap₂ (λ a b. a ++ b) (own_line_here t line) (own_here t.running (Stops end q.moment.now.steps q.moment.now.crossings))));
-  others_told = λ i apart. own_append i (told_line t line) (told_by t (Stops end q.moment.now.steps q.moment.now.crossings)) ∙ ap₂ (λ a b. a ++ b) (own_line_other t line i apart) (own_other t.running i (Stops end q.moment.now.steps q.moment.now.crossings) apart);
+      (ap shown_by is ∙ shown_line line (ended end q.moment)
+      ∙ sym (own_append t.running (told_line t line) (told_by t (Stops end q.moment.now.steps q.moment.now.crossings))
+      ∙ ap₂ (λ a b. a ++ b) (own_line_here t line) (own_here t.running (Stops end q.moment.now.steps q.moment.now.crossings))));
+  others_told = λ i apart. own_append i (told_line t line) (told_by t (Stops end q.moment.now.steps q.moment.now.crossings))
+      ∙ ap₂ (λ a b. a ++ b) (own_line_other t line i apart) (own_other t.running i (Stops end q.moment.now.steps q.moment.now.crossings) apart);
   less = omega (arith, weight_going p going, weight_ended (record q { end = Some end }) end refl);
   next = inl refl;
 }
 
 -- it goes on, behind a line
-going_on : (t : Turns) (p q : Player) (line : Option Line) (next : Turns) → p.end ≡ None → q.end ≡ None → alone p ≡ with_line line (alone q) → next.players ≡ slice_set t.players t.running q → q.left < p.left
+going_on : (t : Turns) (p q : Player) (line : Option Line) (next : Turns) → p.end ≡ None → q.end ≡ None → alone p ≡ with_line line (alone q) → next.players ≡ slice_set t.players t.running q
+    → q.left < p.left
     → (next ≡ changed (with_player t q)) ⊎ ((next ≡ with_player t q) × (q.end ≡ None)) → IsOnce t p (record { told = told_line t line ++ []; turns = next })
 going_on t p q line next going still is players fewer goes = record {
   q = q;
@@ -130,30 +131,34 @@ going_on t p q line next going still is players fewer goes = record {
 }
 
 -- behind a checkpoint
-checkpoint_by : (t : Turns) (p q : Player) (line : Option Line) (found : Option End) → RestWay q.program q.moment q.left found → p.end ≡ None → q.end ≡ None → alone p ≡ with_line line (alone q) → q.left < p.left → IsOnce t p (with_told (told_line t line) (at_checkpoint t q found))
+checkpoint_by : (t : Turns) (p q : Player) (line : Option Line) (found : Option End) → RestWay q.program q.moment q.left found → p.end ≡ None → q.end ≡ None → alone p ≡ with_line line (alone q)
+    → q.left < p.left → IsOnce t p (with_told (told_line t line) (at_checkpoint t q found))
 checkpoint_by t p q line _ (Rests end rests) going still is fewer = over_now t p q line end going (is ∙ ap (with_line line) rests)
 checkpoint_by t p q line _ (Steps n left inside) going still is fewer = going_on t p q line (changed (with_player t q)) going still is (by_change (with_player t q) _) fewer (inl refl)
 
-stepped_by : (t : Turns) (p q : Player) (line : Option Line) (checkpoint : Bool) → p.end ≡ None → q.end ≡ None → alone p ≡ with_line line (alone q) → q.left < p.left → IsOnce t p (with_told (told_line t line) (stepped t q checkpoint))
+stepped_by : (t : Turns) (p q : Player) (line : Option Line) (checkpoint : Bool) → p.end ≡ None → q.end ≡ None → alone p ≡ with_line line (alone q) → q.left < p.left
+    → IsOnce t p (with_told (told_line t line) (stepped t q checkpoint))
 stepped_by t p q line true going still is fewer = checkpoint_by t p q line (rests q) (way_of q) going still is fewer
 stepped_by t p q line false going still is fewer = going_on t p q line (with_player t q) going still is refl fewer (inr (refl, still))
 
-next_by : (t : Turns) (p : Player) (n : ℕ) (next : Next) → p.end ≡ None → p.left ≡ suc n → is_inside p.program p.moment.now.cpu.pc ≡ true → next_of p.program p.moment ≡ next → IsOnce t p (once_by t p (played_by p next))
+next_by : (t : Turns) (p : Player) (n : ℕ) (next : Next) → p.end ≡ None → p.left ≡ suc n → is_inside p.program p.moment.now.cpu.pc ≡ true → next_of p.program p.moment ≡ next
+    → IsOnce t p (once_by t p (played_by p next))
 next_by t p n (Ends end) going left inside is =
     let alone_is : alone p ≡ ended end p.moment = ap (run p.program p.moment) left ∙ run_stops p.program p.moment n end inside is in
     over_now t p p None end going alone_is
 next_by t p n (On line moment) going left inside is =
     let q : Player = record p { moment = moment; left = p.left - 1 } in
     let one_less : n ≡ p.left - 1 = omega arith in
-    let alone_is : alone p ≡ with_line line (alone q) = ap (run p.program p.moment) left ∙ run_goes p.program p.moment moment n line inside is ∙ ap (λ k. with_line line (run p.program moment k)) one_less in
+    let alone_is : alone p ≡ with_line line (alone q) = ap (run p.program p.moment) left ∙ run_goes p.program p.moment moment n line inside is
+    ∙ ap (λ k. with_line line (run p.program moment k)) one_less in
     stepped_by t p q line (is_checkpoint p.program.quantum p.moment.now moment.now) going going alone_is (omega arith)
 
-try_by : (t : Turns) (p : Player) (found : Option End) → RestWay p.program p.moment p.left found → p.end ≡ None → IsOnce t p (once_by t p (tried_by p found))
-try_by t p _ (Rests end rests) going = over_now t p p None end going rests
-try_by t p _ (Steps n left inside) going = next_by t p n (next_of p.program p.moment) going left inside refl
+try_by : (t : Turns) (p : Player) {found : Option End} → RestWay p.program p.moment p.left found → p.end ≡ None → IsOnce t p (once_by t p (tried_by p found))
+try_by t p (Rests end rests) going = over_now t p p None end going rests
+try_by t p (Steps n left inside) going = next_by t p n (next_of p.program p.moment) going left inside refl
 
 pub once_follows : (t : Turns) (p : Player) → p.end ≡ None → IsOnce t p (once t p)
-once_follows t p going = try_by t p (rests p) (way_of p) going
+once_follows t p going = try_by t p (way_of p) going
 
 -- ---- any number of tries
 
@@ -161,19 +166,19 @@ follows_itself : (p : Player) (end : Option End) → p.end ≡ end → Follows p
 follows_itself p None is = Going is is refl refl refl
 follows_itself p (Some end) is = Ended end is refl refl
 
-follows_on : (p q r : Player) (a b : List Shown) → Follows p q a → Follows q r b → Follows p r (a ++ b)
-follows_on p q r a b (Ended end was same none) second =
-    let from : Follows p r b = subst (λ z. Follows z r b) same second in
-    subst (λ l. Follows p r l) (sym (ap (λ l. l ++ b) none)) from
-follows_on p q r a b (Going was still told ends state) (Ended end was' same none) = absurd (cc)
-follows_on p q r a b (Going was still told ends state) (Going was' still' told' ends' state') =
+follows_on : {p q r : Player} {a b : List Shown} → Follows p q a → Follows q r b → Follows p r (a ++ b)
+follows_on {p} {q} {r} {a} {b} (Ended end was same none) second =
+    let from : Follows p r b = rw same at second in
+    rw (ap (λ l. l ++ b) none) from
+follows_on (Going was still told ends state) (Ended end was' same none) = absurd (cc)
+follows_on {p} {q} {r} {a} {b} (Going was still told ends state) (Going was' still' told' ends' state') =
     Going was still' (told ∙ ap (λ l. a ++ l) told' ∙ sym (append_assoc a b (shown_by (alone r)))) (ends ∙ ends') (state ∙ state')
-follows_on p q r a b (Going was still told ends state) (Over was' over holds told') =
+follows_on {p} {q} {r} {a} (Going was still told ends state) (Over was' over holds told') =
     Over was (over ∙ ap (λ e. Some e) (sym ends)) (holds ∙ sym state) (told ∙ ap (λ l. a ++ l) told')
-follows_on p q r a b (Over was over holds told) (Ended end was' same none) =
+follows_on {p} {q} {r} {a} (Over was over holds told) (Ended end was' same none) =
     Over was (ap (λ z. z.end) same ∙ over) (ap (λ z. z.moment) same ∙ holds) (told ∙ sym (ap (λ l. a ++ l) none ∙ append-nil a))
-follows_on p q r a b (Over was over holds told) (Going was' still' told' ends' state') = absurd (cc)
-follows_on p q r a b (Over was over holds told) (Over was' over' holds' told') = absurd (cc)
+follows_on (Over was over holds told) (Going was' still' told' ends' state') = absurd (cc)
+follows_on (Over was over holds told) (Over was' over' holds' told') = absurd (cc)
 
 pub set_here : (players : List Player) (r : ℕ) (p x : Player) → slice_get players r ≡ Some p → slice_get (slice_set players r x) r ≡ Some x
 set_here [] r p x is = absurd (cc)
@@ -195,33 +200,34 @@ became_same : (t : Turns) (task : ℕ) (p : Player) → slice_get t.players task
 became_same t task p is = (p, is, follows_itself p p.end refl)
 
 -- one try, and what comes behind it
-became_more : (t : Turns) (task : ℕ) (p r : Player) (a rest : After) → slice_get t.players t.running ≡ Some r → slice_get t.players task ≡ Some p → IsOnce t r a
+became_more : {t : Turns} (task : ℕ) (p : Player) {r : Player} {a : After} (rest : After) → slice_get t.players t.running ≡ Some r → slice_get t.players task ≡ Some p → IsOnce t r a
     → ((q : Player) → slice_get a.turns.players task ≡ Some q → Became task q rest) → Became task p (with_told a.told rest)
-became_more t task p r a rest runs is one behind = elim (cases_eq task t.running) [
+became_more {t} task p {r} {a} rest runs is one behind = elim (cases_eq task t.running) [
   | inl same ↦
       let its : p ≡ r = cc in
-      let here : slice_get a.turns.players task ≡ Some one.q = ap (λ l. slice_get l task) one.players ∙ ap (λ k. slice_get (slice_set t.players t.running one.q) k) same ∙ set_here t.players t.running r one.q runs in
+      let here : slice_get a.turns.players task ≡ Some one.q = ap (λ l. slice_get l task) one.players ∙ ap (λ k. slice_get (slice_set t.players t.running one.q) k) same
+      ∙ set_here t.players t.running r one.q runs in
       let more = behind one.q here in
-      let first : Follows p one.q (own_told task a.told) = subst (λ z. Follows z one.q (own_told task a.told)) (sym its) (subst (λ k. Follows r one.q (own_told k a.told)) (sym same) one.follows) in
-      (more.0, more.1, subst (λ l. Follows p more.0 l) (sym (own_append task a.told rest.told)) (follows_on p one.q more.0 (own_told task a.told) (own_told task rest.told) first more.2))
+      let first : Follows p one.q (own_told task a.told) = rw (its, same) one.follows in
+      (more.0, more.1, rw (own_append task a.told rest.told) (follows_on first more.2))
   | inr apart ↦
       let here : slice_get a.turns.players task ≡ Some p = ap (λ l. slice_get l task) one.players ∙ set_elsewhere t.players task t.running one.q apart ∙ is in
       let more = behind p here in
-      (more.0, more.1, subst (λ l. Follows p more.0 l) (sym (own_append task a.told rest.told ∙ ap (λ l. l ++ own_told task rest.told) (one.others_told task apart))) more.2)
+      (more.0, more.1, rw (own_append task a.told rest.told ∙ ap (λ l. l ++ own_told task rest.told) (one.others_told task apart)) more.2)
 ]
 
-became_by : (t : Turns) (task : ℕ) (p r : Player) (rest : Turns → After) (end : Option End) → r.end ≡ end → slice_get t.players t.running ≡ Some r → slice_get t.players task ≡ Some p
+became_by : (t : Turns) {task : ℕ} (p r : Player) (rest : Turns → After) (end : Option End) → r.end ≡ end → slice_get t.players t.running ≡ Some r → slice_get t.players task ≡ Some p
     → ((next : Turns) (q : Player) → slice_get next.players task ≡ Some q → Became task q (rest next))
     → Became task p (cond (is_some end) (record { told = []; turns = t }) (with_told (once t r).told (rest (once t r).turns)))
-became_by t task p r rest (Some end) going runs is behind = became_same t task p is
-became_by t task p r rest None going runs is behind = became_more t task p r (once t r) (rest (once t r).turns) runs is (once_follows t r going) (behind (once t r).turns)
+became_by t {task} p r rest (Some end) going runs is behind = became_same t task p is
+became_by t {task} p r rest None going runs is behind = became_more task p (rest (once t r).turns) runs is (once_follows t r going) (behind (once t r).turns)
 
-became_found : (t : Turns) (task : ℕ) (p : Player) (rest : Turns → After) (found : Option Player) → slice_get t.players t.running ≡ found → slice_get t.players task ≡ Some p
+became_found : (t : Turns) {task : ℕ} (p : Player) (rest : Turns → After) (found : Option Player) → slice_get t.players t.running ≡ found → slice_get t.players task ≡ Some p
     → ((next : Turns) (q : Player) → slice_get next.players task ≡ Some q → Became task q (rest next)) → Became task p (go_on t found rest)
-became_found t task p rest None runs is behind = became_same t task p is
-became_found t task p rest (Some r) runs is behind = became_by t task p r rest r.end refl runs is behind
+became_found t {task} p rest None runs is behind = became_same t task p is
+became_found t p rest (Some r) runs is behind = became_by t p r rest r.end refl runs is behind
 
 pub apart_from_others : (n : ℕ) (t : Turns) → IsApartFromOthers t n
 unfolding tries
 apart_from_others zero t = λ task p is. became_same t task p is
-apart_from_others (suc n) t = λ task p is. became_found t task p (tries n) (slice_get t.players t.running) refl is (λ next q there. apart_from_others n next task q there)
+apart_from_others (suc n) t = λ task p is. became_found t p (tries n) (slice_get t.players t.running) refl is (λ next q there. apart_from_others n next task q there)

@@ -43,10 +43,6 @@ reset_player image scripts quantum slots n i below =
     let here : 0 + i ≡ i = omega arith in
     reset_from words 0 scripts quantum slots n i below ∙ ap (λ j. Some (at_reset_in (program_at words quantum slots j) (slice_index_or scripts i nothing).events n)) here
 
--- a quarter is framed: its last two words are blank
-word_of_tasks : (count : ℕ) (image : List ℕ) (a : ℕ) → a < quarter * count → word (task_words count image) a ≡ word image a
-word_of_tasks count image a below = get_or-map-range_with_len (word image) 0 (quarter * count) a a 0xFFFF below (omega arith)
-
 own_bounds : (task a : ℕ) → is_own (quarter_part task) a ≡ true → (quarter * task ≤ a) × (a < quarter * task + quarter)
 own_bounds task a own = (grind (arith, nat_tests, own), grind (arith, nat_tests, own))
 
@@ -67,12 +63,13 @@ framed count image task below few placed = record {
       let bounds = own_bounds task a own in
       let least : quarter * task ≤ a = bounds.0 in
       let most : a < quarter * task + quarter = bounds.1 in
-      word_of_tasks count image a (omega (arith, most, below)) ∙ blank_by count image a placed (omega (arith, least, most, last));
+      (get_or-map-range_with_len (word image) 0 (quarter * count) a a 0xFFFF (omega (arith, most, below)) (omega arith)) ∙ blank_by count image a placed (omega (arith, least, most, last));
 }
 
 -- the run of a task's program over its own words alone is that over all
 pub own_run : (count : ℕ) (image : List ℕ) (scripts : List Schedule) (quantum slots n task : ℕ) → task < count → count ≤ 4 → ((address : ℕ) → ¬ IsMisplaced count image address)
-    → alone (at_reset_in (masked.alone (program_at (task_words count image) quantum slots task)) (slice_index_or scripts task nothing).events n) ≡ alone (player_at (task_words count image) scripts quantum slots n task)
+    → alone (at_reset_in (masked.alone (program_at (task_words count image) quantum slots task)) (slice_index_or scripts task nothing).events n)
+    ≡ alone (player_at (task_words count image) scripts quantum slots n task)
 own_run count image scripts quantum slots n task below few placed =
     masked_run (program_at (task_words count image) quantum slots task) (player_at (task_words count image) scripts quantum slots n task).moment n (framed count image task below few placed)
 

@@ -1,6 +1,7 @@
 -- Tasks in turn, each over a flat memory of its own: no mote is shared, and no task reads anything of another
 -- (docs/TASKS.md, "In turn").
-use Rattle.std.specs.Prelude.{◌≡◌, ℕ, zero, suc, ◌+◌, ◌-◌, ◌%◌, Bool, true, false, not, ◌&&◌, ◌==◌, nat_lt, is_some, if◌then◌else◌, List, [], ◌∷◌, ◌++◌, length, map, sum_by, slice_index_or, slice_get, slice_set, Option, Some, None}
+use Rattle.std.specs.Prelude.{◌≡◌, ℕ, zero, suc, ◌+◌, ◌-◌, ◌%◌, Bool, true, false, not, ◌&&◌, ◌==◌, nat_lt, is_some, if◌then◌else◌, List, [], ◌∷◌, ◌++◌, length, map, sum_by, slice_index_or, slice_get}
+use Rattle.std.specs.Prelude.{slice_set, Option, Some, None}
 use Rattle.std.specs.List.{range_with_len, find}
 use Rattle.input_script.specs.declared.input.Event.{Event}
 use Rattle.mote_devices.specs.declared.line.Line.{Line}
@@ -166,7 +167,8 @@ pub data Follows (p q : Player) (told : List Shown) : Type 0 where
 
 -- No other task has to do with what a task tells, when and how it ends, and what it holds.
 abbrev pub IsApartFromOthers : Turns → ℕ → Type 0
-IsApartFromOthers t n = (task : ℕ) → (p : Player) → slice_get t.players task ≡ Some p → (q : Player) × (slice_get (tries n t).turns.players task ≡ Some q) × Follows p q (own_told task (tries n t).told)
+IsApartFromOthers t n = (task : ℕ) → (p : Player) → slice_get t.players task ≡ Some p
+    → (q : Player) × (slice_get (tries n t).turns.players task ≡ Some q) × Follows p q (own_told task (tries n t).told)
 
 -- every task has ended
 abbrev pub HaveEnded : Turns → Type 0

@@ -17,7 +17,6 @@ use Rattle.nat_page.specs.Faithful.{IsFaithful}
 use Rattle.branch_bridge.specs.declared.arrival.ArriveStop.TheVariants as refusals
 use Rattle.branch_bridge.specs.declared.arrival.Refused.{Refused}
 use Rattle.branch_bridge.specs.declared.arrival.Moved.{Moved}
-use Rattle.branch_bridge.specs.declared.rewriting.ResolveStop.{ResolveStop}
 use Rattle.flash_words.proofs.LayoutLaws.{layout_right}
 use Rattle.nat_page.proofs.FaithfulLaws.{faithful_mapped}
 use Rattle.branch_bridge.specs.declared.through.Arrival.{Arrival as BridgeArrival}
@@ -45,14 +44,14 @@ use Rattle.step_laws.proofs.ServiceMoves.{kernel_served}
 use Rattle.step_laws.specs.Moves.{Plain, Serve, Move, Begin, Within, Arrive, Take}
 use Rattle.step_laws.specs.Numbers.{one_if}
 use Rattle.step_laws.specs.States.{State, end_by, mote_of, stops_taking, store_of, with_store, placed, settled_by, arrived}
-use Rattle.step_laws.specs.Walks.{Walk, MakesPlain, MakesArrive, MakesTake}
+use Rattle.step_laws.specs.Walks.{Walk, Makes, MakesPlain, MakesArrive, MakesTake}
 use Rattle.program_steps.proofs.Arrived.{after_arrived, pc_in}
 use Rattle.walk_laws.proofs.OneWalk.{kernel_taken}
 use Rattle.theorem_reader.specs.Acts.{Act, Step, Service, Arrival, Interrupt, IsStep, Relinks, IsNext, IsMade, Arrives, In, Outside, Refused as RefusedThere, IsArrival, IsInterrupt, Follow}
-use Rattle.theorem_reader.specs.Pools.{pool_from, IsPlaceOf}
+use Rattle.theorem_reader.specs.Pools.{pool_from, AreFaithful, IsPlaceOf}
 use Rattle.theorem_reader.proofs.Motes.{one_core, one_mote}
 use Rattle.theorem_reader.proofs.Linking.{relinks_by}
-use Rattle.theorem_reader.proofs.NextPage.{pool_pages_of, ring_stays, next_is, anew_from, erased_free}
+use Rattle.theorem_reader.proofs.NextPage.{pool_pages_of, ring_stays, next_is, anew_from, erased_free, IsBegun, own_code, ready_of, Comes}
 use Rattle.theorem_reader.proofs.KeptLinks.{OthersKeep, others_keep, lost_in}
 use Rattle.theorem_reader.proofs.RefusedPages.{made_untorn, place_untorn}
 use Rattle.theorem_reader.proofs.Pooling.{Begins, pool_begins, in_pool, faithful_is, but_is, place_is, entry_is, place_low}
@@ -121,10 +120,12 @@ pc_unplaced x (Some place) refused is = absurd (cc)
 pc_unplaced x None None is = refl
 pc_unplaced x None (Some refused) is = refl
 
+pc_arrived : (x y : State) (store : Store) (arrival : BridgeArrival) (place : ℕ) → y ≡ arrived x store arrival → arrival.place ≡ Some place → (mote_of y).cpu.pc ≡ place
+pc_arrived x y store arrival place after there = ap (λ (s : State). (mote_of s).cpu.pc) after ∙ pc_in (with_store x store) arrival.place arrival.refused place there
+
 -- a refused arrival leaves the pc, or in the pool
 place_by : (image words : List ℕ) (x y : State) (target : ℕ) (store : Store) (place : Option ℕ) (refused : Option Refused) → length image ≤ 24576
-    → y ≡ settled_by (placed (with_store x store) place) refused
-    → IsFaithful (layout_of (length image)) image words → IfSome place (IsEntry (layout_of (length image)) words target)
+    → y ≡ settled_by (placed (with_store x store) place) refused → IsFaithful (layout_of (length image)) image words → IfSome place (IsEntry (layout_of (length image)) words target)
     → ((mote_of y).cpu.pc ≡ (mote_of x).cpu.pc) ⊎ ((pool_from image ≤ (mote_of y).cpu.pc) × ((mote_of y).cpu.pc < 0xF000))
 place_by image words x y target store None refused few after code entered =
     inl (ap (λ (s : State). (mote_of s).cpu.pc) after ∙ pc_unplaced (with_store x store) None refused refl)
@@ -133,14 +134,6 @@ place_by image words x y target store (Some place) refused few after code entere
     let pc : (mote_of y).cpu.pc ≡ place = ap (λ (s : State). (mote_of s).cpu.pc) after ∙ pc_in (with_store x store) (Some place) refused place refl in
     let low = place_low image words target place (place_is image words target place (faithful_mapped l image words (layout_right (length image) few) code) entered) in
     inr (omega (arith, pc, low.0), omega (arith, pc, low.1))
-
-place_either : (image : List ℕ) (x y : State) (target : ℕ) (store : Store) (arrival : BridgeArrival) (stop : ResolveStop) → length image ≤ 24576 → y ≡ arrived x store arrival
-    → arrival.refused ≡ Some (bridge.refused_by stop)
-    → IsFaithful (layout_of (length image)) image (with_torn (mote_of y).flash.words stop.torn)
-    → IfSome arrival.place (λ v. IsEntry (layout_of (length image)) (with_torn (mote_of y).flash.words stop.torn) target v)
-    → ((mote_of y).cpu.pc ≡ (mote_of x).cpu.pc) ⊎ ((pool_from image ≤ (mote_of y).cpu.pc) × ((mote_of y).cpu.pc < 0xF000))
-place_either image x y target store arrival stop few after is code entered =
-    place_by image (with_torn (mote_of y).flash.words stop.torn) x y target store arrival.place arrival.refused few after code entered
 
 unmade_by : (made : Bool) → one_if made ≡ 0 → made ≡ false
 unmade_by true zero = absurd (omega (arith, zero))
@@ -157,18 +150,18 @@ unlisted layout old new refused op none tried later most false is = is
 unlisted layout old new refused op none tried later most true is =
     absurd (let e : None ≡ Some op = sym (ap (λ (r : Option Refused). number_in (stopped_by r)) none) ∙ tried.only op later most is in cc)
 
--- where control is behind one that was not refused
-in_place : (image : List ℕ) (x y : State) (target place : ℕ) (store : Store) (arrival : BridgeArrival) → length image ≤ 24576 → image_of (layout_of (length image)) (mote_of x).flash.words ≡ image
-    → y ≡ arrived x store arrival → KeptThrough (layout_of (length image)) (store_of x) (store_of y) target arrival → arrival.place ≡ Some place → arrival.refused ≡ None
-    → IsPlaceOf image (mote_of y).flash.words target (mote_of y).cpu.pc
-in_place image x y target place store arrival few held after kept there none =
+-- what stands in flash, and where control is, behind one that was not refused
+in_place : (image : List ℕ) (x y : State) (target place : ℕ) (store : Store) (arrival : BridgeArrival) → IsBegun image (store_of x) → y ≡ arrived x store arrival
+    → KeptThrough (layout_of (length image)) (store_of x) (store_of y) target arrival → arrival.place ≡ Some place → arrival.refused ≡ None
+    → AreFaithful image (mote_of y).flash.words × IsPlaceOf image (mote_of y).flash.words target (mote_of y).cpu.pc
+in_place image x y target place store arrival begun after kept there none =
     let l = layout_of (length image) in
     let words = (mote_of y).flash.words in
-    let code : IsFaithful l image words = subst (λ r. IsFaithful l image (with_torn words (torn_by r))) none (subst (λ i. IsFaithful l i (with_torn words (torn_by arrival.refused))) held kept.code) in
-    let entry : IsEntry l words target place =
-    subst (λ p. IfSome p (λ v. IsEntry l words target v)) there (subst (λ r. IfSome arrival.place (λ v. IsEntry l (with_torn words (torn_by r)) target v)) none kept.entered) in
-    let pc : (mote_of y).cpu.pc ≡ place = ap (λ (s : State). (mote_of s).cpu.pc) after ∙ pc_in (with_store x store) arrival.place arrival.refused place there in
-    subst (IsPlaceOf image words target) (sym pc) (place_is image words target place (faithful_mapped l image words (layout_right (length image) few) code) entry)
+    let code : IsFaithful l image words = rw none at (rw begun.held at kept.code) in
+    let entry : IsEntry l words target place = rw there at (rw none at kept.entered) in (
+      faithful_is image words begun.right.image_fits code,
+      subst (IsPlaceOf image words target) (sym (pc_arrived x y store arrival place after there)) (place_is image words target place (faithful_mapped l image words begun.right code) entry),
+    )
 
 -- it is refused just where the program ends there
 settled_flag : (x : State) (refused : Option Refused) → is_some (settled_by x refused).end ≡ is_some refused
@@ -196,8 +189,7 @@ ended_by image x y target store arrival after kept (Answered.Failed stop is insi
     let l = layout_of (length image) in
     let tried : Tried l (mote_of x).flash (mote_of y).flash (Some stop) = subst (λ r. Tried l (mote_of x).flash (mote_of y).flash (stopped_by r)) is kept.tried in
     let within : nat_le (length image) target ≡ false = grind (arith, nat_tests, inside) in
-    ap (λ (s : State). s.end) after ∙ settled_end (placed (with_store x store) arrival.place) (bridge.refused_by stop) arrival.refused is
-    ∙ ap (λ op. Some (ends.Flash op)) tried.refused.last
+    ap (λ (s : State). s.end) after ∙ settled_end (placed (with_store x store) arrival.place) (bridge.refused_by stop) arrival.refused is ∙ ap (λ op. Some (ends.Flash op)) tried.refused.last
     ∙ ap (λ b. Some (if b then ends.Wild target else ends.Flash (mote_of y).flash.ops)) (sym within)
 ended_by image x y target store arrival after kept (Answered.In place there none inside) over =
     absurd (let e : ◌≡◌ {A = Bool} true false = sym over ∙ refused_flag x y store arrival after ∙ ap is_some none in cc)
@@ -210,83 +202,86 @@ place_made layout old new t stub arrival (bridge.Went moved arrives none is) mad
 place_made layout old new t stub arrival (bridge.Resolved mid moved s arrives some stop done same is) made = (moved.place, ap (λ (a : BridgeArrival). a.place) is)
 
 -- what is told of a page that was made
-made_there : (image : List ℕ) (x y : State) (target place : ℕ) (stub : Option ℕ) (store : Store) (arrival : BridgeArrival) → image_of (layout_of (length image)) (mote_of x).flash.words ≡ image
-    → y ≡ arrived x store arrival
-    → ArrivesFrom (layout_of (length image)) (store_of x) (store_of y) target stub arrival → IsRight (layout_of (length image)) → IsFaithful (layout_of (length image)) image (mote_of x).flash.words
-    → ring_of (mote_of x).sram < (layout_of (length image)).pool_pages
-    → CameThrough (layout_of (length image)) (mote_of x).flash.words stub target → arrival.made ≡ true → arrival.place ≡ Some place → IsPlaceOf image (mote_of y).flash.words target place
-    → IsMade image target (mote_of x) (mote_of y)
-made_there image x y target place stub store arrival held after from right sound ring came made there begins =
-    let l = layout_of (length image) in
-    let pc : (mote_of y).cpu.pc ≡ place = ap (λ (s : State). (mote_of s).cpu.pc) after ∙ pc_in (with_store x store) arrival.place arrival.refused place there in
+made_there : (image : List ℕ) (x y : State) (target place : ℕ) (stub : Option ℕ) (store : Store) (arrival : BridgeArrival) → Comes image (mote_of x) (mote_of y) target stub arrival
+    → y ≡ arrived x store arrival → arrival.made ≡ true → arrival.place ≡ Some place → IsPlaceOf image (mote_of y).flash.words target place → IsMade image target (mote_of x) (mote_of y)
+made_there image x y target place stub store arrival comes after made there begins =
+    let pc = pc_arrived x y store arrival place after there in
     let anew : (v : ℕ) → ¬ IsPlaceOf image (mote_of x).flash.words target v =
-    λ v is. anew_from l (store_of x) (store_of y) target stub arrival from made v (entry_is image (mote_of x).flash.words target v is) in
-    goes_far image (mote_of x) (mote_of y) target place stub arrival right held sound ring came from made there pc anew
-    (subst (λ v. IsNext image target (mote_of x) (mote_of y) (v / 128)) (sym pc)
-    (next_is image (mote_of x) (mote_of y) target stub arrival place right held sound ring anew from made there))
+    λ v is. anew_from (layout_of (length image)) (store_of x) (store_of y) target stub arrival comes.from made v (entry_is image (mote_of x).flash.words target v is) in
+    goes_far image (mote_of x) (mote_of y) target place stub arrival comes made there pc anew
+    (subst (λ v. IsNext image target (mote_of x) (mote_of y) (v / 128)) (sym pc) (next_is image (mote_of x) (mote_of y) target stub arrival place comes anew made there))
     (subst (IsPlaceOf image (mote_of y).flash.words target) (sym pc) begins)
 
 -- no page was made, or it is another one than this
 unmade_or_other : (image : List ℕ) (x y : State) (target : ℕ) (stub : Option ℕ) (store : Store) (arrival : BridgeArrival) → y ≡ arrived x store arrival
-    → ArrivesFrom (layout_of (length image)) (store_of x) (store_of y) target stub arrival
-    → (made : Bool) → arrival.made ≡ made → (page : ℕ) → (one_if made ≡ 0) ⊎ (page ≢ (mote_of y).cpu.pc / 128)
+    → ArrivesFrom (layout_of (length image)) (store_of x) (store_of y) target stub arrival → (made : Bool) → arrival.made ≡ made → (page : ℕ) → (one_if made ≡ 0) ⊎ (page ≢ (mote_of y).cpu.pc / 128)
     → (arrival.made ≡ false) ⊎ ((place : ℕ) × (arrival.place ≡ Some place) × (page ≢ place / 128))
 unmade_or_other image x y target stub store arrival after from false is_made page which = inl is_made
 unmade_or_other image x y target stub store arrival after from true is_made page (inl zero) = absurd (omega (arith, zero))
 unmade_or_other image x y target stub store arrival after from true is_made page (inr away) =
     let there = place_made (layout_of (length image)) (store_of x) (store_of y) target stub arrival from is_made in
-    let pc : (mote_of y).cpu.pc ≡ there.0 = ap (λ (s : State). (mote_of s).cpu.pc) after ∙ pc_in (with_store x store) arrival.place arrival.refused there.0 there.1 in
-    inr (there.0, there.1, λ same. away (same ∙ ap (λ v. v / 128) (sym pc)))
+    inr (there.0, there.1, λ same. away (same ∙ ap (λ v. v / 128) (sym (pc_arrived x y store arrival there.0 after there.1))))
 
 -- how it ended
-arrives_by : (image : List ℕ) (x y : State) (target : ℕ) (stub : Option ℕ) (store : Store) (arrival : BridgeArrival) → length image ≤ 24576
-    → image_of (layout_of (length image)) (mote_of x).flash.words ≡ image
-    → y ≡ arrived x store arrival → store ≡ store_of y → ArrivesFrom (layout_of (length image)) (store_of x) (store_of y) target stub arrival
-    → KeptThrough (layout_of (length image)) (store_of x) (store_of y) target arrival
-    → Answered (layout_of (length image)) (store_of x) (store_of y) target arrival → (made : Bool) → arrival.made ≡ made → IsRight (layout_of (length image))
-    → IsFaithful (layout_of (length image)) image (mote_of x).flash.words
-    → CameThrough (layout_of (length image)) (mote_of x).flash.words stub target → OthersKeep image target (mote_of x) (mote_of y) arrival
-    → ring_of (mote_of x).sram < (layout_of (length image)).pool_pages → Arrives image (is_some y.end) target (one_if made) (mote_of x) (mote_of y)
-arrives_by image x y target stub store arrival few held after same from kept (Answered.Wild is outside) made is_made right sound came others ring =
-    let nothing = beyond_is (layout_of (length image)) (store_of x) (store_of y) target stub arrival outside from in
+arrives_by : (image : List ℕ) (x y : State) (target : ℕ) (stub : Option ℕ) (store : Store) (arrival : BridgeArrival) → Comes image (mote_of x) (mote_of y) target stub arrival
+    → y ≡ arrived x store arrival → KeptThrough (layout_of (length image)) (store_of x) (store_of y) target arrival → Answered (layout_of (length image)) (store_of x) (store_of y) target arrival
+    → (made : Bool) → arrival.made ≡ made → OthersKeep image target (mote_of x) (mote_of y) arrival → Arrives image (is_some y.end) target (one_if made) (mote_of x) (mote_of y)
+arrives_by image x y target stub store arrival comes after kept (Answered.Wild is outside) made is_made others =
+    let nothing = beyond_is (layout_of (length image)) (store_of x) (store_of y) target stub arrival outside comes.from in
     Outside (refused_flag x y store arrival after ∙ ap is_some is) outside (ap one_if (sym is_made ∙ nothing.2)) (ap (λ (s : Store). s.flash) nothing.0)
     (ap (λ (s : State). (mote_of s).cpu.pc) after ∙ pc_unplaced (with_store x store) arrival.place arrival.refused nothing.1)
-arrives_by image x y target stub store arrival few held after same from kept (Answered.In place there none inside) made is_made right sound came others ring =
+arrives_by image x y target stub store arrival comes after kept (Answered.In place there none inside) made is_made others =
     let l = layout_of (length image) in
-    let words = (mote_of y).flash.words in
-    let code : IsFaithful l image words = subst (λ r. IsFaithful l image (with_torn words (torn_by r))) none (subst (λ i. IsFaithful l i (with_torn words (torn_by arrival.refused))) held kept.code) in
-    let pc : (mote_of y).cpu.pc ≡ place = ap (λ (s : State). (mote_of s).cpu.pc) after ∙ pc_in (with_store x store) arrival.place arrival.refused place there in
-    let begins = in_place image x y target place store arrival few held after kept there none in
-    In (refused_flag x y store arrival after ∙ ap is_some none) inside (faithful_is image words few code) begins
-    (λ page pool away. others.unrefused none place there page pool (λ is. away (is ∙ ap (λ v. v / 128) (sym pc))))
+    let begun = comes.begun in
+    let pc = pc_arrived x y store arrival place after there in
+    let stands = in_place image x y target place store arrival begun after kept there none in
+    In (refused_flag x y store arrival after ∙ ap is_some none) inside stands.0 stands.1 (λ page pool away. others.unrefused none place there page pool (λ is. away (is ∙ ap (λ v. v / 128) (sym pc))))
     (λ zero. (
-      subst (Relinks (mote_of x).flash.words words) (sym pc)
-          (relinks_by l (store_of x) (store_of y) target stub arrival place right (subst (λ i. IsFaithful l i (mote_of x).flash.words) (sym held) sound) came from
-          (is_made ∙ unmade_by made zero) none there),
-      ring_stays l (store_of x) (mote_of y) target stub arrival (is_made ∙ unmade_by made zero) place there from,
-    ))
-    (λ one. made_there image x y target place stub store arrival held after from right sound ring came (is_made ∙ made_by made one) there (subst (IsPlaceOf image words target) pc begins))
+      subst (Relinks (mote_of x).flash.words (mote_of y).flash.words) (sym pc)
+          (relinks_by l (store_of x) (store_of y) target stub arrival place begun.right (own_code image (store_of x) begun) comes.came comes.from (is_made ∙ unmade_by made zero) none there),
+      ring_stays l (store_of x) (mote_of y) target stub arrival (is_made ∙ unmade_by made zero) place there comes.from,
+    )) (λ one. made_there image x y target place stub store arrival comes after (is_made ∙ made_by made one) there (subst (IsPlaceOf image (mote_of y).flash.words target) pc stands.1))
     (λ op later tried. unlisted l (mote_of x).flash (mote_of y).flash arrival.refused op none kept.tried later tried _ refl)
-arrives_by image x y target stub store arrival few held after same from kept (Answered.Failed stop is inside) made is_made right sound came others ring =
+arrives_by image x y target stub store arrival comes after kept (Answered.Failed stop is inside) made is_made others =
     let l = layout_of (length image) in
     let words = (mote_of y).flash.words in
+    let begun = comes.begun in
+    let few = begun.right.image_fits in
     let tried : Tried l (mote_of x).flash (mote_of y).flash (Some stop) = subst (λ r. Tried l (mote_of x).flash (mote_of y).flash (stopped_by r)) is kept.tried in
     let refusal = tried.refused in
-    let code : IsFaithful l image (with_torn words stop.torn) = subst (λ r. IsFaithful l image (with_torn words (torn_by r))) is
-    (subst (λ i. IsFaithful l i (with_torn words (torn_by arrival.refused))) held kept.code) in
+    let code : IsFaithful l image (with_torn words stop.torn) = rw is at (rw begun.held at kept.code) in
     let entered = subst (λ r. IfSome arrival.place (λ v. IsEntry l (with_torn words (torn_by r)) target v)) is kept.entered in
     RefusedThere (refused_flag x y store arrival after ∙ ap is_some is) inside (omega (arith, refusal.later, refusal.last)) (ap (is_listed (mote_of x).flash) (sym refusal.last) ∙ refusal.listed)
     (but_is image words stop.torn few code refusal.torn) (lost_in (torn_by arrival.refused))
-    (λ page pool which. others.unmade page pool (unmade_or_other image x y target stub store arrival after from made is_made page which))
-    (place_either image x y target store arrival stop few after is code entered)
-    (λ one.
+    (λ page pool which. others.unmade page pool (unmade_or_other image x y target stub store arrival after comes.from made is_made page which))
+    (place_by image (with_torn words stop.torn) x y target store arrival.place arrival.refused few after code entered) (λ one.
     let makes = is_made ∙ made_by made one in
-    let there = place_made l (store_of x) (store_of y) target stub arrival from makes in
-    let own = subst (λ i. IsFaithful l i (mote_of x).flash.words) (sym held) sound in
-    let untorn = subst (λ r. IfSome (torn_by r) (λ torn. torn.page ≢ there.0 / 128)) is (made_untorn l (store_of x) (store_of y) target stub arrival there.0 right own ring came from makes there.1) in
+    let there = place_made l (store_of x) (store_of y) target stub arrival comes.from makes in
+    let untorn = subst (λ r. IfSome (torn_by r) (λ torn. torn.page ≢ there.0 / 128)) is
+    (made_untorn l (store_of x) (store_of y) target stub arrival there.0 (ready_of image (store_of x) begun) comes.came comes.from makes there.1) in
     let entry = subst (λ p. IfSome p (λ v. IsEntry l (with_torn words stop.torn) target v)) there.1 entered in
-    made_there image x y target there.0 stub store arrival held after from right sound ring came makes there.1
-    (place_untorn image words stop.torn target there.0 right (tried.size ∙ sound.whole) refusal.torn (faithful_mapped l image (with_torn words stop.torn) right code) entry untorn))
+    made_there image x y target there.0 stub store arrival comes after makes there.1
+    (place_untorn image words stop.torn target there.0 begun.right (tried.size ∙ begun.code.whole) refusal.torn (faithful_mapped l image (with_torn words stop.torn) begun.right code) entry untorn))
+
+-- an arrival that a walk makes, and what it keeps
+pub comes_by : (image : List ℕ) (quantum : ℕ) (x y : State) (target : ℕ) (made : Bool) (ops : ℕ) → Holds image quantum x → (makes : MakesArrive x target made ops y)
+    → Comes image (mote_of x) (mote_of y) target makes.owed.stub makes.arrival × KeptThrough (layout_of (length image)) (store_of x) (store_of y) target makes.arrival
+comes_by image quantum x y target made ops holds makes =
+    let l = layout_of (length image) in
+    let words = (mote_of x).flash.words in
+    let after = after_arrived x y makes.store makes.arrival makes.after in (
+      record {
+        begun = record {
+          right = subst IsRight holds.laid makes.can.right;
+          held = holds.held;
+          code = subst (λ i. IsFaithful l i words) holds.held (subst (λ k. IsFaithful k (image_of k words) words) holds.laid makes.can.faithful);
+          ring = subst (λ (k : Layout). ring_of (mote_of x).sram < k.pool_pages) holds.laid makes.can.ring;
+        };
+        came = subst (λ k. CameThrough k words makes.owed.stub target) holds.laid makes.can.came;
+        from = rw after.store_is (rw holds.laid at makes.arrives);
+      },
+      rw after.store_is (rw holds.laid at makes.kept),
+    )
 
 pub record Arriving (image : List ℕ) (quantum target made ops : ℕ) (x y : State) : Type 0 where
   pub act : IsArrival image (is_some y.end) target made ops (mote_of x) (mote_of y)
@@ -300,43 +295,38 @@ arrival_is image quantum x y target made ops holds makes =
     let l = layout_of (length image) in
     let after = after_arrived x y makes.store makes.arrival makes.after in
     let begins = pool_begins image in
-    let right = subst IsRight holds.laid makes.can.right in
-    let came = subst (λ k. CameThrough k (mote_of x).flash.words makes.owed.stub target) holds.laid makes.can.came in
-    let few = right.image_fits in
-    let from = subst (λ (s : Store). ArrivesFrom l (store_of x) s target makes.owed.stub makes.arrival) (sym after.store_is)
-    (subst (λ k. ArrivesFrom k (store_of x) makes.store target makes.owed.stub makes.arrival) holds.laid makes.arrives) in
-    let kept = subst (λ (s : Store). KeptThrough l (store_of x) s target makes.arrival) (sym after.store_is)
-    (subst (λ k. KeptThrough k (store_of x) makes.store target makes.arrival) holds.laid makes.kept) in
-    let ring = subst (λ (k : Layout). ring_of (mote_of x).sram < k.pool_pages) holds.laid makes.can.ring in
+    let both = comes_by image quantum x y target made ops holds makes in
+    let comes = both.0 in
+    let kept = both.1 in
+    let right = comes.begun.right in
+    let sound = comes.begun.code in
+    let ready = ready_of image (store_of x) comes.begun in
     let counted = ap (λ (s : Store). s.flash.ops) after.store_is ∙ makes.tried in
-    let answer = answered l (store_of x) (store_of y) target makes.owed.stub makes.arrival from in
-    let sound = subst (λ i. IsFaithful l i (mote_of x).flash.words) holds.held (subst (λ k. IsFaithful k (image_of k (mote_of x).flash.words) (mote_of x).flash.words) holds.laid makes.can.faithful) in
-    let own = subst (λ i. IsFaithful l i (mote_of x).flash.words) (sym holds.held) sound in
-    let worked = works_from l (store_of x) (store_of y) target makes.owed.stub makes.arrival right own ring came from in
-    let leaves = λ (page : ℕ). leaves_from l (store_of x) (store_of y) page target makes.owed.stub makes.arrival right own ring came from in
+    let answer = answered l (store_of x) (store_of y) target makes.owed.stub makes.arrival comes.from in
+    let worked = works_from l (store_of x) (store_of y) target makes.owed.stub makes.arrival ready comes.came comes.from in
+    let leaves = λ (page : ℕ). leaves_from l (store_of x) (store_of y) page target makes.owed.stub makes.arrival ready comes.came comes.from in
     let erases = λ (page : ℕ). erases_from l (store_of x) target (mote_of y).flash makes.arrival page (leaves page) in
-    let pc = λ (place : ℕ) (there : makes.arrival.place ≡ Some place). ap (λ (s : State). (mote_of s).cpu.pc) makes.after
-    ∙ pc_in (with_store x makes.store) makes.arrival.place makes.arrival.refused place there in
+    let pc = λ (place : ℕ) (there : makes.arrival.place ≡ Some place). pc_arrived x y makes.store makes.arrival place makes.after there in
     record {
       act = record {
-        sound = faithful_is image (mote_of x).flash.words few sound;
+        sound = faithful_is image (mote_of x).flash.words right.image_fits sound;
         page = one_most made;
-        worked = omega (arith, counted, worked.counted, worked.some, ap one_if makes.makes);
-        operations = worked.operations;
-        tried = omega (arith, counted, worked.counted);
+        worked = omega (arith, counted, worked.does.counted, worked.some, ap one_if makes.makes);
+        operations = worked.does.operations;
+        tried = omega (arith, counted, worked.does.counted);
         counted = counted;
-        allowed = λ done behind operation split. allowed_each image (mote_of x).flash worked.operations done behind operation worked.suit
-            (ap (λ (p : Performed). p.memory.ops) worked.is ∙ worked.counted) split;
+        allowed = λ done behind operation split. allowed_each image (mote_of x).flash worked.does.operations done behind operation worked.does.suit
+            (ap (λ (p : Performed). p.memory.ops) worked.does.is ∙ worked.does.counted) split;
         few = λ page inside erased. (
             let pool = in_pool image page inside in
             omega (
               arith,
               counted,
-              few_from l (store_of x) (store_of y) target page makes.owed.stub makes.arrival pool (erased_free l image (mote_of x).flash.words page right sound pool erased) from,
+              few_from l (store_of x) (store_of y) target page makes.owed.stub makes.arrival pool (erased_free l image (mote_of x).flash.words page right sound pool erased) comes.from,
               ap one_if makes.makes,
             ));
         most = omega (arith, counted, kept.ops, pool_pages_of image);
-        performed = ap (λ (p : Performed). p.memory) worked.is;
+        performed = ap (λ (p : Performed). p.memory) worked.does.is;
         erased = record { twice = λ page below. (erases page).0; never = λ page below. (erases page).1 };
         stays = one_mote (mote_of y) (record (mote_of x) { cpu = record (mote_of x).cpu { pc = (mote_of y).cpu.pc }; sram = (mote_of y).sram; flash = (mote_of y).flash })
             (one_core (mote_of y).cpu (mote_of x).cpu after.r after.sreg after.sp) refl refl after.devices after.swap;
@@ -346,8 +336,8 @@ arrival_is image quantum x y target made ops holds makes =
           | inl low ↦ omega (arith, pool.from, begins.first, low)
           | inr high ↦ omega (arith, pool.to, begins.end, high)
         ]);
-        arrives = arrives_by image x y target makes.owed.stub makes.store makes.arrival few holds.held makes.after (sym after.store_is) from kept answer made makes.makes right sound came
-            (others_keep image target (mote_of x) (mote_of y) makes.arrival right sound pc leaves) ring;
+        arrives = arrives_by image x y target makes.owed.stub makes.store makes.arrival comes makes.after kept answer made makes.makes
+            (others_keep image target (mote_of x) (mote_of y) makes.arrival comes.begun pc leaves);
       };
       holds = record { laid = after.layout ∙ holds.laid; held = kept.image ∙ holds.held; counts = after.quantum ∙ holds.counts };
       over = ended_by image x y target makes.store makes.arrival makes.after kept answer;
@@ -419,14 +409,40 @@ taken_keeps x y stops makes =
     subst (λ (n : Kernel). KeptBy x.kernel n stops) (sym (ap (λ (s : State). s.kernel) makes.result ∙ kernel_taken x p))
     (subst (KeptBy x.kernel p.1) makes.halts (kept_by x.kernel p.1 target p.0 (taking_row x.kernel target p.0 p.1 refl makes.paged)))
 
--- where flash, the layout and the quantum stay
-holds_still : (image : List ℕ) (quantum : ℕ) (x y : State) → Holds image quantum x → y.kernel.layout ≡ x.kernel.layout → y.kernel.quantum ≡ x.kernel.quantum → (mote_of y).flash ≡ (mote_of x).flash
-    → Holds image quantum y
-holds_still image quantum x y holds layout same flash = record {
-  laid = layout ∙ holds.laid;
-  counts = same ∙ holds.counts;
-  held = ap (λ (f : Memory). image_of (layout_of (length image)) f.words) flash
-      ∙ holds.held;
+-- a move that is no arrival leaves flash, the layout and the quantum
+abbrev pub IsNoArrival : Move → Type 0
+IsNoArrival (Arrive target made ops) = ⊥
+IsNoArrival _ = Unit {0}
+
+pub record StaysBy (x y : State) : Type 0 where
+  pub layout : y.kernel.layout ≡ x.kernel.layout
+  pub quantum : y.kernel.quantum ≡ x.kernel.quantum
+  pub flash : (mote_of y).flash ≡ (mote_of x).flash
+
+pub stays_by : (x : State) (move : Move) (y : State) → Makes x move y → IsNoArrival move → StaysBy x y
+stays_by x (Within (Serve line stops)) y makes none =
+    let leaves = served_leaves x.kernel makes.can in
+    let same = kernel_served x y line stops makes in
+    record {
+      layout = ap (λ (k : Kernel). k.layout) same ∙ leaves.layout;
+      quantum = ap (λ (k : Kernel). k.quantum) same ∙ leaves.quantum;
+      flash = ap (λ (k : Kernel). k.mote.flash) same ∙ leaves.flash;
+    }
+stays_by x (Arrive target made ops) y makes none = absurd none
+stays_by x (Take stops) y makes none =
+    let keeps = taken_keeps x y stops makes in
+    record { layout = keeps.layout; quantum = keeps.quantum; flash = ap (λ (m : Mote). m.flash) keeps.mote.stays }
+stays_by x _ y makes none = record {
+  layout = ap (λ (s : State). s.kernel.layout) makes.result;
+  quantum = ap (λ (s : State). s.kernel.quantum) makes.result;
+  flash = ap (λ (s : State). (mote_of s).flash) makes.result ∙ makes.step.flash;
+}
+
+pub holds_still : (image : List ℕ) (quantum : ℕ) (x y : State) → Holds image quantum x → StaysBy x y → Holds image quantum y
+holds_still image quantum x y holds stays = record {
+  laid = stays.layout ∙ holds.laid;
+  counts = stays.quantum ∙ holds.counts;
+  held = ap (λ (f : Memory). image_of (layout_of (length image)) f.words) stays.flash ∙ holds.held;
 }
 
 -- each act of a walk is one, and the image stays
@@ -437,34 +453,19 @@ pub record Following (image : List ℕ) (quantum : ℕ) (x : State) (moves : Lis
 pub follow : (image : List ℕ) (quantum : ℕ) (x : State) (moves : List Move) (z : State) (walk : Walk x moves z) → Holds image quantum x → Following image quantum x moves z walk
 follow image quantum x [] z walk holds = record { follow = ap mote_of walk; holds = subst (Holds image quantum) walk holds }
 follow image quantum x (Begin line ∷ moves) z walk holds =
-    let y = walk.0 in
-    let next = holds_still image quantum x y holds (ap (λ (s : State). s.kernel.layout) walk.1.result) (ap (λ (s : State). s.kernel.quantum) walk.1.result)
-    (ap (λ (s : State). (mote_of s).flash) walk.1.result ∙ walk.1.step.flash) in
-    let rest = follow image quantum y moves z walk.2 next in
-    record { follow = (refl, step_is (pool_from image) x y true line (pool_of image quantum x holds) walk.1, rest.follow); holds = rest.holds }
+    let rest = follow image quantum walk.0 moves z walk.2 (holds_still image quantum x walk.0 holds (stays_by x (Begin line) walk.0 walk.1 tt)) in
+    record { follow = (refl, step_is (pool_from image) x walk.0 true line (pool_of image quantum x holds) walk.1, rest.follow); holds = rest.holds }
 follow image quantum x (Within (Plain line) ∷ moves) z walk holds =
-    let y = walk.0 in
-    let next = holds_still image quantum x y holds (ap (λ (s : State). s.kernel.layout) walk.1.result) (ap (λ (s : State). s.kernel.quantum) walk.1.result)
-    (ap (λ (s : State). (mote_of s).flash) walk.1.result ∙ walk.1.step.flash) in
-    let rest = follow image quantum y moves z walk.2 next in
-    record { follow = (refl, step_is (pool_from image) x y false line (pool_of image quantum x holds) walk.1, rest.follow); holds = rest.holds }
+    let rest = follow image quantum walk.0 moves z walk.2 (holds_still image quantum x walk.0 holds (stays_by x (Within (Plain line)) walk.0 walk.1 tt)) in
+    record { follow = (refl, step_is (pool_from image) x walk.0 false line (pool_of image quantum x holds) walk.1, rest.follow); holds = rest.holds }
 follow image quantum x (Within (Serve line stops) ∷ moves) z walk holds =
-    let y = walk.0 in
-    let leaves = served_leaves x.kernel walk.1.can in
-    let same = kernel_served x y line stops walk.1 in
-    let next = holds_still image quantum x y holds (ap (λ (k : Kernel). k.layout) same ∙ leaves.layout) (ap (λ (k : Kernel). k.quantum) same ∙ leaves.quantum)
-    (ap (λ (k : Kernel). k.mote.flash) same ∙ leaves.flash) in
-    let rest = follow image quantum y moves z walk.2 next in
-    record {
-      follow = (refl, service_is image quantum x y line stops (ap (λ (l : Layout). image_of l (mote_of x).flash.words) holds.laid ∙ holds.held) holds.counts walk.1, rest.follow);
-      holds =
-          rest.holds;
-    }
+    let rest = follow image quantum walk.0 moves z walk.2 (holds_still image quantum x walk.0 holds (stays_by x (Within (Serve line stops)) walk.0 walk.1 tt)) in
+    let held = ap (λ (l : Layout). image_of l (mote_of x).flash.words) holds.laid ∙ holds.held in
+    record { follow = (refl, service_is image quantum x walk.0 line stops held holds.counts walk.1, rest.follow); holds = rest.holds }
 follow image quantum x (Arrive target made ops ∷ moves) z walk holds =
     let one = arrival_is image quantum x walk.0 target made ops holds walk.1 in
     let rest = follow image quantum walk.0 moves z walk.2 one.holds in
     record { follow = (refl, one.act, rest.follow); holds = rest.holds }
 follow image quantum x (Take stops ∷ moves) z walk holds =
-    let keeps = taken_keeps x walk.0 stops walk.1 in
-    let rest = follow image quantum walk.0 moves z walk.2 (holds_still image quantum x walk.0 holds keeps.layout keeps.quantum (ap (λ (m : Mote). m.flash) keeps.mote.stays)) in
-    record { follow = (refl, keeps.mote, rest.follow); holds = rest.holds }
+    let rest = follow image quantum walk.0 moves z walk.2 (holds_still image quantum x walk.0 holds (stays_by x (Take stops) walk.0 walk.1 tt)) in
+    record { follow = (refl, (taken_keeps x walk.0 stops walk.1).mote, rest.follow); holds = rest.holds }

@@ -29,11 +29,7 @@ IsOfOne _ = Unit {0}
 
 keeps_none : (job : Job) (sink sink' : Stream) (exit : Exit) → IsOfOne job → Does job sink sink' exit → exit.tasks ≡ None
 keeps_none (jobs.Tasks request) sink sink' exit one done = absurd one
-keeps_none (jobs.Print status text) sink sink' exit one done = done.1
-keeps_none (jobs.Run request) sink sink' exit one done = done.1
-keeps_none (jobs.Dump request) sink sink' exit one done = done.1
-keeps_none (jobs.Restart request script) sink sink' exit one done = done.1
-keeps_none (jobs.Write output) sink sink' exit one done = done.1
+keeps_none _ sink sink' exit one done = done.1
 
 judged : {V : Type 0} (part : List ℕ) (Is : V → Type 0) (IsBad : ℕ → List ℕ → Type 0) (Then : V → Job → Type 0) (job : Job) → ((value : V) → Then value job → IsOfOne job)
     → IsJudged V part Is IsBad Then job → IsOfOne job

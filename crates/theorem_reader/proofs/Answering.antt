@@ -40,10 +40,9 @@ use Rattle.theorem_reader.specs.Acts.{HasActs, made_in}
 use Rattle.theorem_reader.specs.Pools.{pool_size, AreFaithful, AreFaithfulBut}
 use Rattle.theorem_reader.specs.Ends.{end_of, IsKeptEnd}
 use Rattle.theorem_reader.specs.Runs.{Asked, Asks, AsksGenerate, generated_by, options_of, original_of, last_lines, Start, boot_of, Stands, EndsWell, EndsInAFault, IsCutShort, ToTheEnd, IsRun}
-use Rattle.theorem_reader.specs.Runs.{NoMemory, Ended}
-use Rattle.theorem_reader.specs.Runs.{Failed, Cut}
+use Rattle.theorem_reader.specs.Runs.{NoMemory, Ended, Failed, Cut}
 use Rattle.theorem_reader.specs.Wear.{IsSpared}
-use Rattle.theorem_reader.proofs.Sparing.{walk_spares, failing_stays, new_unused}
+use Rattle.theorem_reader.proofs.Sparing.{walk_spares, goes_on, new_unused}
 use Rattle.theorem_reader.specs.Telling.{Fails}
 use Rattle.theorem_reader.specs.Texts.{device_line}
 use Rattle.theorem_reader.proofs.Holding.{has_state}
@@ -68,9 +67,8 @@ abbrev pub start_of : Asked → Memory → (pages : ℕ) → Machine
 start_of asked flash pages = started asked.image flash (script_of asked) asked.quantum asked.slots pages
 
 has_acts : (IsFirst : Mote → Type 0) (asked : Asked) (flash : Memory) (pages : ℕ) (lines : List Line) (m : Machine) → IsFirst (start_of asked flash pages).kernel.mote
-    → take (length asked.image) flash.words ≡ asked.image
-    → (path : Leads (start_of asked flash pages) lines m) → Walk (state_of (start_of asked flash pages)) path.moves (state_of m) → m.longest ≤ 5120 * asked.quantum
-    → HasActs IsFirst pages asked.image asked.quantum m.natural m.entries m.pages lines m.kernel.mote
+    → take (length asked.image) flash.words ≡ asked.image → (path : Leads (start_of asked flash pages) lines m) → Walk (state_of (start_of asked flash pages)) path.moves (state_of m)
+    → m.longest ≤ 5120 * asked.quantum → HasActs IsFirst pages asked.image asked.quantum m.natural m.entries m.pages lines m.kernel.mote
 has_acts IsFirst asked flash pages lines m begins held path walk bound =
     let x = state_of (start_of asked flash pages) in
     let moves = path.moves in
@@ -91,10 +89,6 @@ has_acts IsFirst asked flash pages lines m begins held path walk bound =
       linked = are_linked x moves (state_of m) walk;
     }
 
--- no other program's arrivals are counted
-runs_alone : (asked : Asked) (flash : Memory) (pages n : ℕ) (m : Machine) → Leads (start_of asked flash pages) (original_of asked n).lines m → m.others ≡ 0
-runs_alone asked flash pages n m path = ap (λ (k : Numbers). k.others) path.goes.numbers ∙ (unmoved path.moves (numbers_of (start_of asked flash pages))).1
-
 -- the layout of a run is that of its image
 pub layout_same : (image : List ℕ) (m : Machine) → IsSound m → image_held m.kernel ≡ image → m.kernel.layout ≡ layout_of (length image)
 layout_same image m sound held =
@@ -110,20 +104,17 @@ pub record IsBegun (began : Start) (asked : Asked) (flash : Memory) : Type 0 whe
 
 -- where moves lead from such a start
 stands_from : (began : Start) (asked : Asked) (flash : Memory) (n : ℕ) (m : Machine) → IsBegun began asked flash → Follows (request_of asked) (start_of asked flash began.pages) n m
-    → m.steps ≤ asked.steps
-    → (at : Stands began asked (original_of asked n) m) × (at.acts.first ≡ (start_of asked flash began.pages).kernel.mote)
+    → m.steps ≤ asked.steps → (at : Stands began asked (original_of asked n) m) × (at.acts.first ≡ (start_of asked flash began.pages).kernel.mote)
 unfolding has_acts
 stands_from began asked flash n m begun follows within =
     let start = start_of asked flash began.pages in
-    let held = begun.held in
-    let untried = begun.untried in
     let at = follows.at in
     let path = at.path in
     let same = at.state in
     let sound = follows.sound in
-    let pace = paced asked.image asked.quantum (states_of (original_of asked)) start m.steps path.moves m (record { laid = refl; held = held; counts = refl }) (λ w owes. refl) at.by_step path.last
-    (sym (zero-add m.steps)) in
-    let acts = has_acts began.IsFirst asked flash began.pages (original_of asked n).lines m begun.first held path pace.walk (subst (λ q. m.longest ≤ 5120 * q) at.quantum follows.longest) in (
+    let pace = paced asked.image asked.quantum (states_of (original_of asked)) start m.steps path.moves m (record { laid = refl; held = begun.held; counts = refl })
+    (λ w owes. refl) at.by_step path.last (sym (zero-add m.steps)) in
+    let acts = has_acts began.IsFirst asked flash began.pages (original_of asked n).lines m begun.first begun.held path pace.walk (subst (λ q. m.longest ≤ 5120 * q) at.quantum follows.longest) in (
       record {
         state = has_state m.kernel m.kernel.mote m.at m.steps m.crossings (original_of asked n).state.now sound.order.paged (ap (λ (s : Moment). s.now) same);
         pc = ap (λ (s : Moment). s.now.cpu.pc) same;
@@ -134,7 +125,7 @@ stands_from began asked flash n m begun follows within =
         slots = ap (λ (p : Program). p.page_limit) at.program;
         quantum = at.quantum;
         most_steps = within;
-        most_operations = omega (arith, sound.bounded.ops, runs_alone asked flash began.pages n m path);
+        most_operations = omega (arith, sound.bounded.ops, ap (λ (k : Numbers). k.others) path.goes.numbers, (unmoved path.moves (numbers_of start)).1);
         most_pages = follows.pages;
         acts = acts;
         by_step = pace.by_step;
@@ -147,24 +138,11 @@ stands_from began asked flash n m begun follows within =
 -- the end that is kept
 own_end : (end : MachineEnd) → flat_end end ≡ end_of end
 own_end ends.Spent = refl
-own_end (ends.Stopped stop) = refl
-own_end (ends.Wild t) = refl
-own_end (ends.Flash op) = refl
-
-own_kept : (end : FlatEnd) (m : Machine) → ((kept : MachineEnd) × (m.end ≡ Some kept) × (flat_end kept ≡ end)) → (own : MachineEnd) × (m.end ≡ Some own) × (end_of own ≡ end)
-own_kept end m keeps = (keeps.0, keeps.1, sym (own_end keeps.0) ∙ keeps.2)
+own_end _ = refl
 
 pub kept_end : (end : FlatEnd) (m : Machine) → KeepsEnd end m → IsKeptEnd end m.end
 kept_end flat_ends.Spent m keeps = keeps
-kept_end (flat_ends.Wild pc) m keeps = own_kept (flat_ends.Wild pc) m keeps
-kept_end (flat_ends.Illegal pc) m keeps = own_kept (flat_ends.Illegal pc) m keeps
-kept_end (flat_ends.SelfProgram pc) m keeps = own_kept (flat_ends.SelfProgram pc) m keeps
-kept_end (flat_ends.Asleep pc) m keeps = own_kept (flat_ends.Asleep pc) m keeps
-kept_end (flat_ends.Halted pc) m keeps = own_kept (flat_ends.Halted pc) m keeps
-kept_end (flat_ends.Read pc a) m keeps = own_kept (flat_ends.Read pc a) m keeps
-kept_end (flat_ends.Io pc a) m keeps = own_kept (flat_ends.Io pc a) m keeps
-kept_end (flat_ends.Stack pc a) m keeps = own_kept (flat_ends.Stack pc a) m keeps
-kept_end (flat_ends.SwapFull pc a) m keeps = own_kept (flat_ends.SwapFull pc a) m keeps
+kept_end end m keeps = (keeps.0, keeps.1, sym (own_end keeps.0) ∙ keeps.2)
 
 -- a run to the original's end keeps no refused operation as its end
 fault_spends : (end : FlatEnd) (m : Machine) (op : ℕ) → ((kept : MachineEnd) × (m.end ≡ Some kept) × (flat_end kept ≡ end)) → m.end ≡ Some (ends.Flash op) → end ≡ flat_ends.Spent
@@ -175,15 +153,7 @@ fault_spends end m op keeps is =
 
 pub no_fault : (end : FlatEnd) (m : Machine) (op : ℕ) → KeepsEnd end m → m.end ≢ Some (ends.Flash op)
 no_fault flat_ends.Spent m op keeps is = let e : Some (ends.Flash op) ≡ None = sym is ∙ keeps in absurd (cc)
-no_fault (flat_ends.Wild pc) m op keeps is = let e : flat_ends.Wild pc ≡ flat_ends.Spent = fault_spends (flat_ends.Wild pc) m op keeps is in absurd (cc)
-no_fault (flat_ends.Illegal pc) m op keeps is = let e : flat_ends.Illegal pc ≡ flat_ends.Spent = fault_spends (flat_ends.Illegal pc) m op keeps is in absurd (cc)
-no_fault (flat_ends.SelfProgram pc) m op keeps is = let e : flat_ends.SelfProgram pc ≡ flat_ends.Spent = fault_spends (flat_ends.SelfProgram pc) m op keeps is in absurd (cc)
-no_fault (flat_ends.Asleep pc) m op keeps is = let e : flat_ends.Asleep pc ≡ flat_ends.Spent = fault_spends (flat_ends.Asleep pc) m op keeps is in absurd (cc)
-no_fault (flat_ends.Halted pc) m op keeps is = let e : flat_ends.Halted pc ≡ flat_ends.Spent = fault_spends (flat_ends.Halted pc) m op keeps is in absurd (cc)
-no_fault (flat_ends.Read pc a) m op keeps is = let e : flat_ends.Read pc a ≡ flat_ends.Spent = fault_spends (flat_ends.Read pc a) m op keeps is in absurd (cc)
-no_fault (flat_ends.Io pc a) m op keeps is = let e : flat_ends.Io pc a ≡ flat_ends.Spent = fault_spends (flat_ends.Io pc a) m op keeps is in absurd (cc)
-no_fault (flat_ends.Stack pc a) m op keeps is = let e : flat_ends.Stack pc a ≡ flat_ends.Spent = fault_spends (flat_ends.Stack pc a) m op keeps is in absurd (cc)
-no_fault (flat_ends.SwapFull pc a) m op keeps is = let e : flat_ends.SwapFull pc a ≡ flat_ends.Spent = fault_spends (flat_ends.SwapFull pc a) m op keeps is in absurd (cc)
+no_fault end m op keeps is = let e : end ≡ flat_ends.Spent = fault_spends end m op keeps is in absurd (cc)
 
 torn_by_order : (torn : Option Torn) (layout : Layout) (m : Machine) → IfSome torn (λ t. IsTorn layout m.kernel.mote.flash.words t × HasFault m) → IfSome torn (IsTorn layout m.kernel.mote.flash.words)
 torn_by_order None layout m is = tt
@@ -193,27 +163,27 @@ never_torn : (m : Machine) (torn : Option Torn) → ((op : ℕ) → m.end ≢ So
 never_torn m None unfailed is = refl
 never_torn m (Some torn) unfailed is = absurd (unfailed is.1.0 is.1.1)
 
--- flash behind a run
-pub lacking_of : (asked : Asked) (m : Machine) → IsSound m → image_held m.kernel ≡ asked.image → AreFaithfulBut asked.image m.kernel.mote.flash.words
-lacking_of asked m sound held =
-    let order = sound.order in
+-- flash behind a run, with the words that a torn page lacks
+mended_code : (asked : Asked) (m : Machine) → IsSound m → image_held m.kernel ≡ asked.image
+    → (length asked.image ≤ 24576) × IsFaithful (layout_of (length asked.image)) asked.image (mended_words m.kernel m.torn)
+mended_code asked m sound held =
     let l = layout_of (length asked.image) in
     let laid = layout_same asked.image m sound held in
-    let code : IsFaithful l asked.image (mended_words m.kernel m.torn) = subst (λ i. IsFaithful l i (mended_words m.kernel m.torn)) held
-    (subst (λ k. IsFaithful k (image_held m.kernel) (mended_words m.kernel m.torn)) laid order.faithful) in
-    let few = (subst IsRight laid order.right).image_fits in
-    but_is asked.image m.kernel.mote.flash.words m.torn few code (torn_by_order m.torn l m (subst (λ k. IfSome m.torn (λ t. IsTorn k m.kernel.mote.flash.words t × HasFault m)) laid order.tried.torn))
+    let words = mended_words m.kernel m.torn in
+    ((subst IsRight laid sound.order.right).image_fits, subst (λ i. IsFaithful l i words) held (subst (λ k. IsFaithful k (image_held m.kernel) words) laid sound.order.faithful))
+
+pub lacking_of : (asked : Asked) (m : Machine) → IsSound m → image_held m.kernel ≡ asked.image → AreFaithfulBut asked.image m.kernel.mote.flash.words
+lacking_of asked m sound held =
+    let words = m.kernel.mote.flash.words in
+    let code = mended_code asked m sound held in
+    but_is asked.image words m.torn code.0 code.1 (torn_by_order m.torn (layout_of (length asked.image)) m
+    (subst (λ k. IfSome m.torn (λ t. IsTorn k words t × HasFault m)) (layout_same asked.image m sound held) sound.order.tried.torn))
 
 pub whole_of : (asked : Asked) (m : Machine) → IsSound m → image_held m.kernel ≡ asked.image → ((op : ℕ) → m.end ≢ Some (ends.Flash op)) → AreFaithful asked.image m.kernel.mote.flash.words
 whole_of asked m sound held unfailed =
-    let order = sound.order in
-    let l = layout_of (length asked.image) in
-    let laid = layout_same asked.image m sound held in
-    let untorn = never_torn m m.torn unfailed order.tried.torn in
-    let code : IsFaithful l asked.image (mended_words m.kernel m.torn) = subst (λ i. IsFaithful l i (mended_words m.kernel m.torn)) held
-    (subst (λ k. IsFaithful k (image_held m.kernel) (mended_words m.kernel m.torn)) laid order.faithful) in
-    let few = (subst IsRight laid order.right).image_fits in
-    faithful_is asked.image m.kernel.mote.flash.words few (subst (λ t. IsFaithful l asked.image (with_torn m.kernel.mote.flash.words t)) untorn code)
+    let words = m.kernel.mote.flash.words in
+    let code = mended_code asked m sound held in
+    faithful_is asked.image words code.0 (subst (λ t. IsFaithful (layout_of (length asked.image)) asked.image (with_torn words t)) (never_torn m m.torn unfailed sound.order.tried.torn) code.1)
 
 -- how often pages were erased, where so many are used at the start
 pub spared : (asked : Asked) (flash : Memory) (pages n : ℕ) (m : Machine) → take (length asked.image) flash.words ≡ asked.image → pages ≡ used_pages (layout_of (length asked.image)) flash.words
@@ -230,12 +200,10 @@ spared asked flash pages n m held used unlisted follows fits =
 
 -- .. of a machine whose device lines could not be put
 unlisted_by : (asked : Asked) (flash : Memory) (pages n : ℕ) (m : Machine) → take (length asked.image) flash.words ≡ asked.image → Follows (request_of asked) (start_of asked flash pages) n m
-    → ((op : ℕ) → m.end ≢ Some (ends.Flash op))
-    → (op : ℕ) → 1 ≤ op → op ≤ m.kernel.mote.flash.ops → is_listed flash.failing op ≡ false
+    → ((op : ℕ) → m.end ≢ Some (ends.Flash op)) → (op : ℕ) → 1 ≤ op → op ≤ m.kernel.mote.flash.ops → is_listed flash.failing op ≡ false
 unlisted_by asked flash pages n m held follows unfailed op low high =
-    let start = start_of asked flash pages in
     let path = follows.at.path in
-    let stays = failing_stays asked.image asked.quantum (state_of start) path.moves (state_of m) path.goes.walk (record { laid = refl; held = held; counts = refl }) in
+    let stays = (goes_on (state_of (start_of asked flash pages)) path.moves (state_of m) path.goes.walk).failing in
     false_from_ne_true (is_listed flash.failing op) (λ there. unfailed op (follows.sound.order.tried.listed op low high (ap (λ failing. is_listed failing op) stays ∙ there)))
 
 -- and how it ended
@@ -252,8 +220,7 @@ ends_well began asked flash front before now told m begun unlisted run =
       none_failed = λ op low high. ap (λ (first : Mote). is_listed first.flash.failing op) there.1 ∙ unlisted op low high;
       flash = record {
         wear = λ fits.
-            subst (λ (first : Mote). IsSpared first.flash m.kernel.mote.flash) (sym there.1)
-            (spared asked flash began.pages asked.steps m begun.held begun.used unlisted run.follows fits);
+            rw there.1 (spared asked flash began.pages asked.steps m begun.held begun.used unlisted run.follows fits);
         faithful = whole_of asked m run.follows.sound (ap (λ (p : Program). p.image) run.follows.at.program) (λ op. no_fault _ m op run.end);
       };
     }
@@ -291,8 +258,7 @@ cut_short began asked flash front words exit status faults taken call m begun sa
       lacking = lacking_of asked m follows.sound image;
       flash = λ unfailed. record {
         wear = λ fits.
-            subst (λ (first : Mote). IsSpared first.flash m.kernel.mote.flash) (sym there.1)
-            (spared asked flash began.pages m.steps m begun.held begun.used (unlisted_by asked flash began.pages m.steps m begun.held follows unfailed) follows fits);
+            rw there.1 (spared asked flash began.pages m.steps m begun.held begun.used (unlisted_by asked flash began.pages m.steps m begun.held follows unfailed) follows fits);
         faithful = whole_of asked m follows.sound image unfailed;
       };
     }
@@ -314,11 +280,9 @@ pub ends_well_from_boot : (asked : Asked) (before now : Stream) (told : Status) 
 ends_well_from_boot asked before now told m unlisted run =
     ends_well (boot_of asked) asked (new_flash asked.image asked.failing) [] before now told m (is_boot_of asked asked.steps m run.follows) unlisted run
 
-pub ends_in_a_fault : (asked : Asked) (before now : Stream) (told : Status) (m : Machine)
-    → (run : RunsIntoAFault (request_of asked) before now told m) → EndsInAFault (boot_of asked) asked m
+pub ends_in_a_fault : (asked : Asked) (before now : Stream) (told : Status) (m : Machine) → (run : RunsIntoAFault (request_of asked) before now told m) → EndsInAFault (boot_of asked) asked m
 ends_in_a_fault asked before now told m run =
-    let flash = new_flash asked.image asked.failing in
-    let there = stands_from (boot_of asked) asked flash m.steps m (is_boot_of asked m.steps m run.follows) run.follows (omega (arith, run.fewer)) in
+    let there = stands_from (boot_of asked) asked (new_flash asked.image asked.failing) m.steps m (is_boot_of asked m.steps m run.follows) run.follows (omega (arith, run.fewer)) in
     record {
       stands = there.0;
       fewer = run.fewer;
@@ -331,12 +295,10 @@ ends_in_a_fault asked before now told m run =
     }
 
 ran : (asked : Asked) (words : List (List ℕ)) (exit : Exit) (status faults : ℕ) (taken : List ℕ) (call : Call words exit status faults taken) (m : Machine) → exit.kept ≡ Some m
-    → Runs (request_of asked) call.sink call.sink' exit.status m
-    → Somehow call.sink call.sink' (λ sink. IsRun (boot_of asked) sink asked status taken exit.kept)
+    → Runs (request_of asked) call.sink call.sink' exit.status m → Somehow call.sink call.sink' (λ sink. IsRun (boot_of asked) sink asked status taken exit.kept)
 ran asked words exit status faults taken call m kept (Runs.Ended unlisted run) =
-    let flash = new_flash asked.image asked.failing in
     so_then call.sink call.sink' _ (λ sink. IsRun (boot_of asked) sink asked status taken exit.kept) (λ sink run. Ended m kept run)
-    (to_the_end (boot_of asked) asked flash [] words exit status faults taken call m (is_boot_of asked asked.steps m run.follows) refl unlisted run)
+    (to_the_end (boot_of asked) asked (new_flash asked.image asked.failing) [] words exit status faults taken call m (is_boot_of asked asked.steps m run.follows) refl unlisted run)
 ran asked words exit status faults taken call m kept (Runs.Failed run) =
     let r = original_of asked m.steps in
     so_then call.sink call.sink' _ (λ sink. IsRun (boot_of asked) sink asked status taken exit.kept) (λ sink told. Failed m kept (record {
@@ -353,15 +315,13 @@ ran asked words exit status faults taken call m kept (Runs.Cut run) =
 
 -- a run that is warranted, whatever asked for it
 pub run_of : (words : List (List ℕ)) (exit : Exit) (status faults : ℕ) (taken : List ℕ) (call : Call words exit status faults taken) (asked : Asked)
-    → IsWarranted words call.source call.source' (jobs.Run (request_of asked))
-    → IsSoThen faults (λ sink. IsRun (boot_of asked) sink asked status taken exit.kept)
+    → IsWarranted words call.source call.source' (jobs.Run (request_of asked)) → IsSoThen faults (λ sink. IsRun (boot_of asked) sink asked status taken exit.kept)
 run_of words exit status faults taken call asked warranted =
     told_by words exit status faults taken call _ (λ sink. IsRun (boot_of asked) sink asked status taken exit.kept) warranted (λ sink told none alone. NoMemory told none)
     (λ done. ran asked words exit status faults taken call done.0.machine done.0.kept done.0.runs)
 
 pub run_told : (words : List (List ℕ)) (exit : Exit) (status faults : ℕ) (taken : List ℕ) (call : Call words exit status faults taken) (text : List ℕ) → Tells call.source call.source' text
-    → (asked : Asked)
-    → Asks words text asked → IsSoThen faults (λ sink. IsRun (boot_of asked) sink asked status taken exit.kept)
+    → (asked : Asked) → Asks words text asked → IsSoThen faults (λ sink. IsRun (boot_of asked) sink asked status taken exit.kept)
 run_told words exit status faults taken call text tells asked asks =
     run_of words exit status faults taken call asked
     (inl (RunCommand (options_of asked), asks.command, (text, tells, inr (asks.front.short, Good (asked.image, asks.front.position) asks.front.hex (Good (script_of asked) asks.script refl)))))

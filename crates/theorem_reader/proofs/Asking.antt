@@ -36,8 +36,7 @@ pub asked_before : (n : ℕ) (t new : Tasks) (play : Play) (motes : List Mote) (
 asked_before n t new play motes left one are all w owes =
     let y = machine_of t t.running one.task in
     let had = are.each t.running one.task one.here in
-    let back = is_here t one.task had.own had.held in
-    let pc = ap (λ (m : Mote). m.cpu.pc) (mote_before n t new play one) ∙ ap (λ (c : Cpu). c.pc) back.core in
+    let pc = ap (λ (m : Mote). m.cpu.pc) (mote_before n t new play one) ∙ ap (λ (c : Cpu). c.pc) (is_here t one.task had.own had.held).core in
     kernel_same had.own y.kernel.mote pc (all t.running one.task had.own one.here had.there one.going (owed_some one.task.owed _ one.task.due w owes))
 
 -- behind its moves
@@ -93,8 +92,7 @@ asked_on n t new play motes left true one are all is =
     let mid = one.mid in
     let runs : slice_get mid.tasks mid.running ≡ Some one.next = ap (slice_get mid.tasks) one.tried.running ∙ ap (λ l. slice_get l t.running) one.tried.tasks
     ∙ set_same t.tasks t.running one.task one.next one.here in
-    subst (λ (u : Tasks). AllAsked u (slice_set motes t.running mid.kernel.mote)) (sym is)
-    (asked_to mid one.next (slice_set motes t.running mid.kernel.mote) (next_task mid) one.tried.sound runs refl (asked_tried n t new play motes left one are all))
+    rw is (asked_to mid one.next (slice_set motes t.running mid.kernel.mote) (next_task mid) one.tried.sound runs refl (asked_tried n t new play motes left one are all))
 
 pub asked_behind : (n : ℕ) (t new : Tasks) (play : Play) (motes : List Mote) (left : Mote) → (one : IsPlay n t play new) → AreLeft t motes left → AllAsked t motes
     → AllAsked new (slice_set motes t.running one.mid.kernel.mote)

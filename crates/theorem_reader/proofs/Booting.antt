@@ -5,7 +5,7 @@ use Rattle.sram_layout.specs.Bytes.{byte_at, with_byte}
 use Rattle.sram_layout.specs.Cells.{count_cell}
 use Rattle.sram_layout.proofs.Laws.{byte_same, byte_other}
 use Rattle.sram_layout.proofs.BootLaws.{length-at_boot, boot_slot, boot_zero}
-use Rattle.base_laws.specs.Lists.{many}
+use Rattle.base.specs.Lists.{many}
 use Rattle.flash_words.specs.Memory.{Memory, loaded, new_flash}
 use Rattle.swap_store.specs.Slots.{zero_slots, zero_page}
 use Rattle.input_script.specs.declared.input.Event.{Event}

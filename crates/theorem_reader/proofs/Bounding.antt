@@ -4,7 +4,7 @@ use Rattle.step_laws.specs.Moves.{Plain, Serve, Move, Begin, Within, Arrive, lin
 use Rattle.step_laws.specs.Numbers.{Numbers, moved, numbered}
 use Rattle.step_laws.specs.States.{State}
 use Rattle.step_laws.specs.Walks.{Walk}
-use Rattle.theorem_reader.specs.Acts.{Act, Step, Service, Arrival, Interrupt, steps_in, services_in, made_in, lines_in}
+use Rattle.theorem_reader.specs.Acts.{Act, Step, Service, steps_in, services_in, made_in, lines_in}
 use Rattle.theorem_reader.proofs.Acting.{acts_of}
 
 pub natural_of : (x : State) (moves : List Move) (z : State) (walk : Walk x moves z) (n : Numbers) → (numbered moves n).natural ≡ n.natural + steps_in (acts_of x moves z walk)
@@ -40,8 +40,7 @@ abbrev pub since_in : (since : ℕ) → List Act → ℕ
 since_in since [] = since
 since_in since (Step line before after ∷ acts) = since_in (since + 1) acts
 since_in since (Service line stops before after ∷ acts) = since_in 0 acts
-since_in since (Arrival refused target made ops before after ∷ acts) = since_in since acts
-since_in since (Interrupt stops before after ∷ acts) = since_in since acts
+since_in since (act ∷ acts) = since_in since acts
 
 pub since_of : (x : State) (moves : List Move) (z : State) (walk : Walk x moves z) (n : Numbers) → (numbered moves n).since ≡ since_in n.since (acts_of x moves z walk)
 unfolding moved
@@ -54,8 +53,7 @@ abbrev pub longest_in : (since longest : ℕ) → List Act → ℕ
 longest_in since longest [] = longest
 longest_in since longest (Step line before after ∷ acts) = longest_in (since + 1) (max longest (since + 1)) acts
 longest_in since longest (Service line stops before after ∷ acts) = longest_in 0 longest acts
-longest_in since longest (Arrival refused target made ops before after ∷ acts) = longest_in since longest acts
-longest_in since longest (Interrupt stops before after ∷ acts) = longest_in since longest acts
+longest_in since longest (act ∷ acts) = longest_in since longest acts
 
 pub longest_of : (x : State) (moves : List Move) (z : State) (walk : Walk x moves z) (n : Numbers) → (numbered moves n).longest ≡ longest_in n.since n.longest (acts_of x moves z walk)
 unfolding moved
@@ -67,50 +65,42 @@ rises : (since longest : ℕ) (acts : List Act) → longest ≤ longest_in since
 rises since longest [] = omega arith
 rises since longest (Step line before after ∷ acts) = omega (arith, rises (since + 1) (max longest (since + 1)) acts)
 rises since longest (Service line stops before after ∷ acts) = rises 0 longest acts
-rises since longest (Arrival refused target made ops before after ∷ acts) = rises since longest acts
-rises since longest (Interrupt stops before after ∷ acts) = rises since longest acts
+rises since longest (act ∷ acts) = rises since longest acts
 
 stretch : (k since longest : ℕ) (between back : List Act) → services_in between ≡ 0 → k ≤ since → k ≤ longest → k + steps_in between ≤ longest_in since longest (between ++ back)
 stretch k since longest [] back none below most = omega (arith, rises since longest back, most)
 stretch k since longest (Step line before after ∷ between) back none below most =
     omega (arith, stretch (k + 1) (since + 1) (max longest (since + 1)) between back none (omega (arith, below)) (omega (arith, below, most)))
 stretch k since longest (Service line stops before after ∷ between) back none below most = absurd (omega (arith, none))
-stretch k since longest (Arrival refused target made ops before after ∷ between) back none below most = stretch k since longest between back none below most
-stretch k since longest (Interrupt stops before after ∷ between) back none below most = stretch k since longest between back none below most
+stretch k since longest (act ∷ between) back none below most = stretch k since longest between back none below most
 
 pub no_longer : (since longest : ℕ) (front between back : List Act) → services_in between ≡ 0 → steps_in between ≤ longest_in since longest (front ++ (between ++ back))
 no_longer since longest [] between back none = omega (arith, stretch 0 since longest between back none (omega arith) (omega arith))
 no_longer since longest (Step line before after ∷ front) between back none = no_longer (since + 1) (max longest (since + 1)) front between back none
 no_longer since longest (Service line stops before after ∷ front) between back none = no_longer 0 longest front between back none
-no_longer since longest (Arrival refused target made ops before after ∷ front) between back none = no_longer since longest front between back none
-no_longer since longest (Interrupt stops before after ∷ front) between back none = no_longer since longest front between back none
+no_longer since longest (act ∷ front) between back none = no_longer since longest front between back none
 
 -- Acts behind others. -------------------------------------------------------------------------------------
 
 pub steps_behind : (acts more : List Act) → steps_in (acts ++ more) ≡ steps_in acts + steps_in more
 steps_behind [] more = omega arith
 steps_behind (Step line before after ∷ acts) more = omega (arith, steps_behind acts more)
-steps_behind (Service line stops before after ∷ acts) more = steps_behind acts more
-steps_behind (Arrival refused target made ops before after ∷ acts) more = steps_behind acts more
-steps_behind (Interrupt stops before after ∷ acts) more = steps_behind acts more
+steps_behind (act ∷ acts) more = steps_behind acts more
 
 pub services_behind : (acts more : List Act) → services_in (acts ++ more) ≡ services_in acts + services_in more
 services_behind [] more = omega arith
 services_behind (Step line before after ∷ acts) more = services_behind acts more
 services_behind (Service line stops before after ∷ acts) more = omega (arith, services_behind acts more)
-services_behind (Arrival refused target made ops before after ∷ acts) more = services_behind acts more
-services_behind (Interrupt stops before after ∷ acts) more = services_behind acts more
+services_behind (act ∷ acts) more = services_behind acts more
 
 pub since_behind : (since : ℕ) (acts more : List Act) → since_in since (acts ++ more) ≡ since_in (since_in since acts) more
 since_behind since [] more = refl
 since_behind since (Step line before after ∷ acts) more = since_behind (since + 1) acts more
 since_behind since (Service line stops before after ∷ acts) more = since_behind 0 acts more
-since_behind since (Arrival refused target made ops before after ∷ acts) more = since_behind since acts more
-since_behind since (Interrupt stops before after ∷ acts) more = since_behind since acts more
+since_behind since (act ∷ acts) more = since_behind since acts more
 
 pub longest_behind : (since longest : ℕ) (acts more : List Act) → longest_in since longest (acts ++ more) ≡ longest_in (since_in since acts) (longest_in since longest acts) more
 longest_behind since longest [] more = refl
 longest_behind since longest (Step line before after ∷ acts) more = longest_behind (since + 1) (max longest (since + 1)) acts more
 longest_behind since longest (Service line stops before after ∷ acts) more = longest_behind 0 longest acts more
-longest_behind since longest (Arrival refused target made ops before after ∷ acts) more = longest_behind since longest acts more
-longest_behind since longest (Interrupt stops before after ∷ acts) more = longest_behind since longest acts more
+longest_behind since longest (act ∷ acts) more = longest_behind since longest acts more

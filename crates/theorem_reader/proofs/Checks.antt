@@ -57,8 +57,7 @@ line_told image flash sink sink' exit job done line =
     Verdicts line.verdict line.is own.0.0 own.0.1
 
 by_source : (image flash text : List ℕ) (position : ℕ) (source source' : Input) (sink sink' : Stream) (exit : Exit) (job : Job) → Tells source source' text → length text ≤ most_input
-    → HexText text image position → IsDump (drop position text) flash
-    → Does job sink sink' exit → AsksByText CheckAsks source source' job → Answers image flash sink sink' exit
+    → HexText text image position → IsDump (drop position text) flash → Does job sink sink' exit → AsksByText CheckAsks source source' job → Answers image flash sink sink' exit
 by_source image flash text position source source' sink sink' exit job tells short hex dump done (inl (IsUnread.ReadFault is rose taken)) = absurd (tells.read rose)
 by_source image flash text position source source' sink sink' exit job tells short hex dump done (inl (IsUnread.TooLong is taken)) =
     absurd (omega (arith, taken_of source source' text (most_input + 1) tells.told taken, short))
@@ -69,8 +68,7 @@ by_source image flash text position source source' sink sink' exit job tells sho
     line_told image flash sink sink' exit job done (of_text text image flash position job hex dump (subst (λ t. CheckAsks t job) same judged.2))
 
 pub check_answers : (words : List (List ℕ)) (image flash text : List ℕ) (position : ℕ) (source source' : Input) (sink sink' : Stream) (exit : Exit) → IsCommand words Check → Tells source source' text
-    → length text ≤ most_input → HexText text image position → IsDump (drop position text) flash
-    → IsAnswer words source source' sink sink' exit → Answers image flash sink sink' exit
+    → length text ≤ most_input → HexText text image position → IsDump (drop position text) flash → IsAnswer words source source' sink sink' exit → Answers image flash sink sink' exit
 check_answers words image flash text position source source' sink sink' exit is tells short hex dump answer = elim answer.asked [
   | inl asked ↦
       let same = one_command words asked.0 Check asked.1 is in

@@ -45,8 +45,7 @@ taken_is (Some xs) (Some ys) taken text first last appended =
 -- .. which are no fewer than those that went out whole
 begun_is : (before now : Option (List ℕ)) (taken text : List ℕ) → before ≡ Some [] → now ≡ Some taken → Begins before now text → length text ≤ length taken
 begun_is before now taken text first last begun =
-    let is = taken_is before now taken (text ++ begun.0) first last begun.1 in
-    omega (arith, ap length is, length-append text begun.0)
+    omega (arith, ap length (taken_is before now taken (text ++ begun.0) first last begun.1), length-append text begun.0)
 
 -- A call. -------------------------------------------------------------------------------------------------
 
@@ -124,11 +123,9 @@ so_is words exit status faults taken call So (Fails, rose, so) = Failed (omega (
 -- what a call tells whose words and text ask for this job
 pub told_by : (words : List (List ℕ)) (exit : Exit) (status faults : ℕ) (taken : List ℕ) (call : Call words exit status faults taken) (job : Job) (So : Sink → Type 0)
     → IsWarranted words call.source call.source' job → ((sink : Sink) → IsTold sink 8 no_memory status taken → exit.kept ≡ None → exit.tasks ≡ None → So sink)
-    → (Does job call.sink call.sink' exit → Somehow call.sink call.sink' So)
-    → IsSoThen faults So
+    → (Does job call.sink call.sink' exit → Somehow call.sink call.sink' So) → IsSoThen faults So
 told_by words exit status faults taken call job So warranted wanting done =
-    so_is words exit status faults taken call So
-    (elim (call.exact.done job warranted) [
+    so_is words exit status faults taken call So (elim (call.exact.done job warranted) [
       | inl none ↦ so_then call.sink call.sink' _ So (λ sink told. wanting sink told none.0.1 none.1) (told_how words exit status faults taken call _ _ none.0.0)
       | inr own ↦ done own
     ])

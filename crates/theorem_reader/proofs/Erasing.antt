@@ -1,7 +1,7 @@
 -- Which pages a restart erases: just those whose words change.
-use Rattle.std.proofs.Common.{◌≡◌, ◌≢◌, ℕ, ◌+◌, ◌-◌, ◌*◌, ◌≤◌, ◌<◌, ◌==◌, ◌&&◌, Bool, true, false, not, if◌then◌else◌, List, [], ◌∷◌, length, slice_index, refl, sym, ap, ◌∙◌, arith, inl, inr, ◌⊎◌}
+use Rattle.std.proofs.Common.{◌≡◌, ◌≢◌, ℕ, ◌+◌, ◌-◌, ◌*◌, ◌≤◌, ◌<◌, ◌==◌, ◌&&◌, Bool, true, false, not, if◌then◌else◌, List, [], ◌∷◌, length, slice_index, refl, sym, ap, ◌∙◌, arith, inl, inr}
 use Rattle.std.specs.Prelude.{◌||◌}
-use Rattle.std.proofs.lemmas.Bool.{cases_lt, and_parts, eqb-true}
+use Rattle.std.proofs.lemmas.Bool.{cases_lt, and_parts, eqb-true, cases_Bool}
 use Rattle.flash_words.specs.declared.layout.Layout.{Layout}
 use Rattle.flash_words.specs.Layouts.{IsRight}
 use Rattle.flash_words.specs.Memory.{Memory}
@@ -69,10 +69,6 @@ pub data Turned (old new : Memory) (page : ℕ) : Type 0 where
 same_words : (words words' : List ℕ) (page : ℕ) → page_of words' page ≡ page_of words page → IsSamePage words words' page
 same_words words words' page same k below = sym (page_word words' page k below) ∙ ap (λ (w : List ℕ). slice_index w k) same ∙ page_word words page k below
 
-one_or_other : (b : Bool) → (b ≡ true) ⊎ (b ≡ false)
-one_or_other true = inl refl
-one_or_other false = inr refl
-
 -- a page that is kept is erased where it has stubs that stray, any other where it has words
 where_kept : (blank kept some : Bool) → kept ≡ true → ((not blank && not kept) || (kept && some)) ≡ some
 where_kept blank false some is = absurd (cc)
@@ -89,9 +85,8 @@ pub other_words : (image words words' : List ℕ) (stray : ℕ → ℕ → Bool)
     → page_of words' page ≡ page_of (with_calls words (stubs_where stray image words page)) page
     → size (pieces_in image words page) ≤ 128 → are_some (stubs_where stray image words page) ≡ true → IsSamePage words words' page → ⊥
 other_words image words words' stray page whole low is fits some same =
-    let pieces = pieces_in image words page in
     let new = with_calls words (stubs_where stray image words page) in
-    let one = changed_by words stray (page_words * page) pieces (omega (arith, whole, low, fits)) some in
+    let one = changed_by words stray (page_words * page) (pieces_in image words page) (omega (arith, whole, low, fits)) some in
     let k = one.at - 128 * page in
     let below : k < 128 = omega (arith, one.high, one.low, fits) in
     let here : 128 * page + k ≡ one.at = omega (arith, one.low) in
@@ -113,12 +108,12 @@ turned_in layout image old new told page right whole restarts pool =
     let low : page < 480 = omega (arith, pool.to, right.pool_below_kernel) in
     let long : length (page_of old.words page) ≡ 128 = length-page_of old.words page (omega (arith, whole, low)) in
     let by = restarts.erases page pool in
-    elim (one_or_other kept) [
+    elim (cases_Bool kept) [
       | inl is ↦ (
           let test = where_kept blank kept (are_some stubs) is in
           let own = keeps.keeps page pool is in
           let code = ((keeps.are page pool).0 is).code in
-          elim (one_or_other (are_some stubs)) [
+          elim (cases_Bool (are_some stubs)) [
             | inl some ↦ Other (other_words image old.words new.words stray page whole low own (own_run Anywhere image old.words page code.first code.last code.holds).holds.fits some)
                 (by ∙ ap (λ b. worn b count) (test ∙ some))
             | inr none ↦ Same (same_words old.words new.words page (own ∙ ap (λ w. page_of w page) (no_stubs old.words stubs none))) (by ∙ ap (λ b. worn b count) (test ∙ none))
@@ -126,7 +121,7 @@ turned_in layout image old new told page right whole restarts pool =
       | inr not_kept ↦ (
           let test = where_not blank kept (are_some stubs) not_kept in
           let free = keeps.drops page pool not_kept in
-          elim (one_or_other blank) [
+          elim (cases_Bool blank) [
             | inl is ↦ Same (same_words old.words new.words page (free ∙ sym ((all_are_blank (page_of old.words page) long).0 is))) (by ∙ ap (λ b. worn b count) (test ∙ ap not is))
             | inr filled ↦ Other (λ same.
                 let was = free_alike new.words old.words page (record { word = same }) (omega (arith, whole, keeps.size, low)) (omega (arith, whole, low)) free in

@@ -4,7 +4,7 @@ use Rattle.std.specs.Prelude.{◌≤◌, Some, slice_set}
 use Rattle.hex.proofs.OnLiterals.{hex_on_literals}
 use Rattle.hex_image.specs.HexText.{HexText}
 use Rattle.cli_words.proofs.WorkedWords.{chosen, rest, said, values_are, with_options}
-use Rattle.base_laws.specs.Lists.{many}
+use Rattle.base.specs.Lists.{many}
 use Rattle.input_script.specs.Script.{nothing}
 use Rattle.pool_check.proofs.CheckedLaws.{outside}
 use Rattle.task_input.specs.Images.{IsMisplaced, IsApart}

@@ -1,9 +1,10 @@
 -- A page that is made goes on as far as it may.
-use Rattle.std.proofs.Common.{◌≡◌, ℕ, suc, ◌+◌, ◌*◌, ◌/◌, ◌<◌, ◌≤◌, Bool, true, false, List, length, slice_index, Option, Some, None, Ok, sym, ap, ◌∙◌, subst, arith}
+use Rattle.std.proofs.Common.{◌≡◌, ℕ, suc, ◌+◌, ◌*◌, ◌/◌, ◌≤◌, Bool, true, false, List, length, slice_index, Option, Some, None, Ok, sym, ap, ◌∙◌, subst, arith}
+use Rattle.std.proofs.lemmas.Option.{same_Some}
 use Rattle.flash_words.specs.Pages.{page_words, page_of, set_page}
 use Rattle.flash_words.specs.Operations.{erased_page}
 use Rattle.flash_words.specs.declared.layout.Layout.{Layout}
-use Rattle.flash_words.specs.Layouts.{IsRight, layout_of, image_of}
+use Rattle.flash_words.specs.Layouts.{IsRight, image_of}
 use Rattle.flash_words.proofs.PageLaws.{length-page_of}
 use Rattle.mote_core.specs.declared.mote.Mote.{Mote}
 use Rattle.page_index.specs.Maps.{IsPool, IsFree}
@@ -21,28 +22,23 @@ use Rattle.nat_page.proofs.MadeLaws.{makes_holds}
 use Rattle.nat_page.proofs.RelinkLaws.{link_placed}
 use Rattle.nat_page.proofs.StayLaws.{holds_alike}
 use Rattle.nat_page.proofs.TwoWords.{length-with_two_words}
-use Rattle.addr_tables.specs.Changes.{forgotten}
 use Rattle.branch_bridge.specs.declared.arrival.Moved.{Moved}
 use Rattle.branch_bridge.specs.declared.through.Arrival.{Arrival}
-use Rattle.branch_bridge.specs.Arrivals.{Store, CameThrough, ring_of, turned, Makes, Made, NotMade, Recycles, NotUnlinked, NotErased, Erased, Arrives, Beyond, Found, Free, Full, ArrivesFrom}
+use Rattle.branch_bridge.specs.Arrivals.{Store, CameThrough, ring_of, Makes, Made, NotMade, Recycles, NotUnlinked, NotErased, Erased, Arrives, Beyond, Found, Free, Full, ArrivesFrom}
 use Rattle.branch_bridge.specs.Arrivals.{Stopped, Went, Resolved}
 use Rattle.branch_bridge.proofs.MakeLaws.{prepared_makes, done_words}
-use Rattle.branch_bridge.proofs.RecycleLaws.{IsAlone, victim_free, erased_faithful, erased_image, entry_before}
+use Rattle.branch_bridge.proofs.RecycleLaws.{entry_before}
 use Rattle.branch_bridge.proofs.ThroughLaws.{is_to_resolve}
 use Rattle.theorem_reader.specs.Acts as acts
 use Rattle.theorem_reader.specs.Acts.{GoesNoFurther, IsNext, IsMade}
 use Rattle.theorem_reader.specs.Pools.{IsPlaceOf}
-use Rattle.theorem_reader.proofs.NextPage.{made_true}
-use Rattle.theorem_reader.proofs.OtherPages.{arrives_others, unlinked_all, still_linked}
-use Rattle.theorem_reader.proofs.PagesLeft.{made_here}
+use Rattle.theorem_reader.proofs.NextPage.{made_true, laid, stored, IsBegun, own_code, ready_of, Comes}
+use Rattle.theorem_reader.proofs.OtherPages.{arrives_others, is_cleared, forgets, still_linked, made_here}
 use Rattle.theorem_reader.proofs.PagesUnlinked.{other_untouched}
 use Rattle.theorem_reader.proofs.Pooling.{place_is}
 use Rattle.theorem_reader.proofs.Rewriting.{rewrites_by}
 use Rattle.theorem_reader.proofs.RefusedPages.{stub_apart}
 use Rattle.theorem_reader.proofs.Working.{link_page}
-
-abbrev laid : List ℕ → Layout
-laid image = layout_of (length image)
 
 -- the run that a page holds, and why it is no longer
 record Far (image before after : List ℕ) (page t : ℕ) : Type 0 where
@@ -53,16 +49,6 @@ record Far (image before after : List ℕ) (page t : ℕ) : Type 0 where
 -- each entry that there is later was there before
 abbrev HadEntries : Layout → (before later : List ℕ) → Type 0
 HadEntries layout before later = (a v : ℕ) → IsEntry layout later a v → IsEntry layout before a v
-
--- flash before an arrival that is of this image and in order
-record IsBegun (image : List ℕ) (old : Store) : Type 0 where
-  right : IsRight (laid image)
-  held : image_of (laid image) old.flash.words ≡ image
-  code : IsFaithful (laid image) image old.flash.words
-  ring : ring_of old.sram < (laid image).pool_pages
-
-own_code : (image : List ℕ) (old : Store) → IsBegun image old → IsFaithful (laid image) (image_of (laid image) old.flash.words) old.flash.words
-own_code image old begun = subst (λ i. IsFaithful (laid image) i old.flash.words) (sym begun.held) begun.code
 
 stops_by : (image before later : List ℕ) (page t last : ℕ) → IsMapped (laid image) before → IsMapped (laid image) later → HadEntries (laid image) before later
     → PageStops (laid image) image later page t last → GoesNoFurther image before page t last
@@ -77,8 +63,7 @@ stops_by image before later page t last mapped mapped' had (PageStops.Known othe
 
 -- a page that is made
 far_made : (image before : List ℕ) (old new : Store) (page t : ℕ) (again : Bool) (moved : Moved) → IsRight (laid image) → image_of (laid image) old.flash.words ≡ image
-    → IsFaithful (laid image) image old.flash.words
-    → IsPool (laid image) page → IsFree old.flash.words page → IsMapped (laid image) before → HadEntries (laid image) before old.flash.words
+    → IsFaithful (laid image) image old.flash.words → IsPool (laid image) page → IsFree old.flash.words page → IsMapped (laid image) before → HadEntries (laid image) before old.flash.words
     → Makes (laid image) old new page t again (Ok moved) → Far image before new.flash.words (moved.place / page_words) t
 far_made image before old new page t again moved right held code pool free mapped had (NotMade words place prepared stop performed same answer) = absurd (cc)
 far_made image before old new page t again moved right held code pool free mapped had (Made words place prepared performed noted answer) =
@@ -103,15 +88,11 @@ far_recycled image old new victim t moved begun pool (NotUnlinked stop performed
 far_recycled image old new victim t moved begun pool (NotErased unlinked performed listed left same answer) = absurd (cc)
 far_recycled image old new victim t moved begun pool (Erased unlinked performed free makes) =
     let l = laid image in
-    let own = image_of l old.flash.words in
-    let up = unlinked_all l old.flash unlinked victim begun.right (own_code image old begun) pool performed in
-    let alone : IsAlone l own unlinked.words victim = record { pool = pool; apart = λ page pool' away. up.apart page pool' (omega (arith, pool'.to)) away } in
-    let whole : IsFaithful l own (erased_page unlinked victim).words = erased_faithful l own unlinked.words victim begun.right up.code alone in
-    let image_there : image_of l (erased_page unlinked victim).words ≡ own = erased_image l own unlinked.words victim begun.right up.code pool ∙ up.same_image in
-    let mid : Store = record { flash = erased_page unlinked victim; sram = turned l (forgotten old.sram victim) } in
-    far_made image old.flash.words mid new victim t true moved begun.right (image_there ∙ begun.held) (subst (λ i. IsFaithful l i (erased_page unlinked victim).words) begun.held whole) pool
-    (victim_free l own unlinked.words victim begun.right up.code pool) (faithful_mapped l image old.flash.words begun.right begun.code)
-    (λ a v entry. up.entries_back a v (entry_before l own unlinked.words victim a v begun.right up.code pool entry)) makes
+    let clear = is_cleared l old.flash unlinked victim begun.right (own_code image old begun) pool performed in
+    let e = erased_page unlinked victim in
+    far_made image old.flash.words (forgets l old unlinked victim) new victim t true moved begun.right (clear.same_image ∙ begun.held) (subst (λ i. IsFaithful l i e.words) begun.held clear.code)
+    pool clear.free (faithful_mapped l image old.flash.words begun.right begun.code)
+    (λ a v entry. clear.up.entries_back a v (entry_before l (image_of l old.flash.words) unlinked.words victim a v begun.right clear.up.code pool entry)) makes
 
 far_arrives : (image : List ℕ) (old new : Store) (t : ℕ) (moved : Moved) → IsBegun image old → Arrives (laid image) old new t (Ok moved) → moved.made ≡ true
     → Far image old.flash.words new.flash.words (moved.place / page_words) t
@@ -130,23 +111,20 @@ far_from : (image : List ℕ) (old new : Store) (t place : ℕ) (stub : Option �
     → ArrivesFrom (laid image) old new t stub arrival → arrival.made ≡ true → arrival.place ≡ Some place → Far image old.flash.words new.flash.words (place / page_words) t
 far_from image old new t place stub arrival begun came (Stopped refused arrives is) made there = absurd (made_true arrival.made made (ap (λ (a : Arrival). a.made) is))
 far_from image old new t place stub arrival begun came (Went moved arrives nothing is) made there =
-    let e : Some moved.place ≡ Some place = sym (ap (λ (a : Arrival). a.place) is) ∙ there in
-    let same : moved.place ≡ place = cc in
+    let same = same_Some moved.place place (sym (ap (λ (a : Arrival). a.place) is) ∙ there) in
     subst (λ v. Far image old.flash.words new.flash.words (v / page_words) t) same (far_arrives image old new t moved begun arrives (sym (ap (λ (a : Arrival). a.made) is) ∙ made))
 far_from image old new t place stub arrival begun came (Resolved mid moved s arrives some stop done kept is) made there =
     let l = laid image in
     let own = image_of l old.flash.words in
-    let code = own_code image old begun in
-    let e : Some moved.place ≡ Some place = sym (ap (λ (a : Arrival). a.place) is) ∙ there in
-    let same : moved.place ≡ place = cc in
+    let ready = ready_of image old begun in
+    let same = same_Some moved.place place (sym (ap (λ (a : Arrival). a.place) is) ∙ there) in
     let is_made = sym (ap (λ (a : Arrival). a.made) is) ∙ made in
     let to = is_to_resolve moved.recycled stub s some in
     let stub_there : IsUnresolved l own old.flash.words s t = subst (λ x. CameThrough l old.flash.words x t) to.same came in
-    let used = (link_page l own old.flash.words s t (omega (arith, code.image_length, begun.right.image_fits)) stub_there.link).1 in
-    let apart = stub_apart l old mid t s moved begun.right code begun.ring used to.apart arrives is_made in
-    let link = still_linked l old mid t s stub moved begun.right code begun.ring came arrives some in
-    let whole = (arrives_others l old mid t (Ok moved) begun.right code begun.ring arrives).whole in
-    let at = link_placed l own mid.flash.words s t jump_word moved.place begun.right whole link in
+    let used = (link_page l own old.flash.words s t (omega (arith, (own_code image old begun).image_length, begun.right.image_fits)) stub_there.link).1 in
+    let apart = stub_apart l old mid t s moved ready used to.apart arrives is_made in
+    let whole = (arrives_others l old mid t (Ok moved) ready arrives).stay.whole in
+    let at = link_placed l own mid.flash.words s t jump_word moved.place begun.right whole (still_linked l old mid t s stub moved ready came arrives some) in
     let inside : 128 * (s / 128) + 128 ≤ length mid.flash.words = omega (arith, whole, at.low) in
     let words = with_two_words mid.flash.words s jump_word moved.place in
     let long : length (page_of words (s / 128)) ≡ 128 = length-page_of words (s / 128) (omega (arith, inside, length-with_two_words mid.flash.words s jump_word moved.place)) in
@@ -159,15 +137,11 @@ far_from image old new t place stub arrival begun came (Resolved mid moved s arr
       stops = far.stops;
     })
 
-pub goes_far : (image : List ℕ) (before after : Mote) (t place : ℕ) (stub : Option ℕ) (arrival : Arrival) → IsRight (layout_of (length image))
-    → image_of (layout_of (length image)) before.flash.words ≡ image
-    → IsFaithful (layout_of (length image)) image before.flash.words → ring_of before.sram < (layout_of (length image)).pool_pages → CameThrough (layout_of (length image)) before.flash.words stub t
-    → ArrivesFrom (layout_of (length image)) (record { flash = before.flash; sram = before.sram }) (record { flash = after.flash; sram = after.sram }) t stub arrival
-    → arrival.made ≡ true → arrival.place ≡ Some place → after.cpu.pc ≡ place → ((v : ℕ) → ¬ IsPlaceOf image before.flash.words t v)
-    → IsNext image t before after (after.cpu.pc / 128) → IsPlaceOf image after.flash.words t after.cpu.pc → IsMade image t before after
-goes_far image before after t place stub arrival right held code ring came from made there pc anew next begins =
-    let begun : IsBegun image (record { flash = before.flash; sram = before.sram }) = record { right = right; held = held; code = code; ring = ring } in
-    let far = far_from image (record { flash = before.flash; sram = before.sram }) (record { flash = after.flash; sram = after.sram }) t place stub arrival begun came from made there in
+pub goes_far : (image : List ℕ) (before after : Mote) (t place : ℕ) (stub : Option ℕ) (arrival : Arrival) → Comes image before after t stub arrival → arrival.made ≡ true
+    → arrival.place ≡ Some place → after.cpu.pc ≡ place → ((v : ℕ) → ¬ IsPlaceOf image before.flash.words t v) → IsNext image t before after (after.cpu.pc / 128)
+    → IsPlaceOf image after.flash.words t after.cpu.pc → IsMade image t before after
+goes_far image before after t place stub arrival comes made there pc anew next begins =
+    let far = far_from image (stored before) (stored after) t place stub arrival comes.begun comes.came comes.from made there in
     record {
       anew = anew;
       next = next;

@@ -1,5 +1,5 @@
 -- Where the bytes of the program's memory are.
-use Rattle.std.proofs.Common.{◌≡◌, ℕ, ◌/◌, ◌%◌, ◌<◌, true, slice_index, sym, ap, subst, ◌∙◌, arith, None}
+use Rattle.std.proofs.Common.{◌≡◌, ℕ, ◌/◌, ◌%◌, ◌<◌, true, slice_index, sym, ap, subst, ◌∙◌, arith}
 use Rattle.std.proofs.lemmas.Bool.Decides.{nat_tests}
 use Rattle.sram_layout.specs.Bytes.{byte_at, data_word_at}
 use Rattle.swap_store.specs.Slots.{page_in}
@@ -7,7 +7,7 @@ use Rattle.mote_core.specs.declared.mote.Mote.{Mote}
 use Rattle.std.proofs.lemmas.Bool.{false_from_ne_true}
 use Rattle.flat_machine.specs.Addresses.{is_heap}
 use Rattle.flat_machine.specs.FlatMachine.{FlatState}
-use Rattle.heap_frames.specs.Frames.{frame_of, holds, pages}
+use Rattle.heap_frames.specs.Frames.{holds, pages}
 use Rattle.heap_frames.specs.Memory.{vmem, heap_byte}
 use Rattle.heap_frames.specs.Paged.{IsPaged}
 use Rattle.heap_frames.proofs.FrameLaws as frames
@@ -29,11 +29,7 @@ page_at m a heap =
 
 frame_is : (m : Mote) (page frame : ℕ) → Holds m page frame → frames.Holds m.sram page frame
 unfolding byte_at
-frame_is m page frame held = record {
-  inside = held.frame_is;
-  occupied = frames.occupied_state m.sram frame held.used;
-  names = held.page_is;
-}
+frame_is m page frame held = record { inside = held.frame_is; occupied = frames.occupied_state m.sram frame held.used; names = held.page_is }
 
 frame_back : (m : Mote) (page frame : ℕ) → frame < 8 → holds m.sram page frame ≡ true → Holds m page frame
 unfolding byte_at
@@ -43,9 +39,6 @@ frame_back m page frame inside held = record {
   used = frames.state_occupied m.sram frame (frames.holds_occupied m.sram page frame held);
 }
 
-unheld : (m : Mote) (page : ℕ) → ((frame : ℕ) → ¬ Holds m page frame) → frame_of m.sram page ≡ None
-unheld m page none = frames.no_frame m.sram page (λ i inside. false_from_ne_true (holds m.sram page i) (λ held. none i (frame_back m page i inside held)))
-
 pub has_memory : (m : Mote) → IsPaged m.sram m.swap → HasMemory m (vmem m.sram m.swap)
 unfolding byte_at page_in
 has_memory m paged = record {
@@ -53,8 +46,9 @@ has_memory m paged = record {
   registers = λ a below. vmem_byte m.sram m.swap a (omega (arith, below)) ∙ no_byte m.sram m.swap a (grind (arith, nat_tests)) (grind (arith, nat_tests));
   window = λ a from to. vmem_byte m.sram m.swap a (omega (arith, to)) ∙ stack_byte m.sram m.swap a (in_window a from (omega arith));
   framed = λ a frame heap held. page_at m a heap ∙ byte_in_frame m.sram m.swap (a / 256) (a % 256) frame (frames.paged_frame m.sram m.swap (a / 256) frame paged (frame_is m (a / 256) frame held));
-  swapped = λ a heap none some. page_at m a heap ∙ byte_in_slot m.sram m.swap (a / 256) (a % 256) (unheld m (a / 256) none) ∙ byte_of_slot m.sram m.swap (a / 256) (a % 256)
-      (frames.slot_held m.sram (a / 256) some);
+  swapped = λ a heap none some.
+      let unheld = frames.no_frame m.sram (a / 256) (λ i inside. false_from_ne_true (holds m.sram (a / 256) i) (λ held. none i (frame_back m (a / 256) i inside held))) in
+      page_at m a heap ∙ byte_in_slot m.sram m.swap (a / 256) (a % 256) unheld ∙ byte_of_slot m.sram m.swap (a / 256) (a % 256) (frames.slot_held m.sram (a / 256) some);
   untouched = λ a heap none.
       let absent = false_from_ne_true _ (λ has. frames.slot_there m.sram (a / 256) has none) in
       page_at m a heap ∙ byte_in_slot m.sram m.swap (a / 256) (a % 256) (absent_without_slot m.sram m.swap (a / 256) paged absent) ∙ byte_of_no_slot m.sram m.swap (a / 256) (a % 256) absent;
@@ -62,7 +56,8 @@ has_memory m paged = record {
 
 have_slots : (m : Mote) → HaveSlots m (pages m.sram)
 unfolding byte_at
-have_slots m page below = (λ some. frames.page_of_table m.sram page below ∙ frames.slot_held m.sram page some, λ stored. frames.slot_there m.sram page (sym (frames.page_of_table m.sram page below) ∙ stored))
+have_slots m page below =
+    (λ some. frames.page_of_table m.sram page below ∙ frames.slot_held m.sram page some, λ stored. frames.slot_there m.sram page (sym (frames.page_of_table m.sram page below) ∙ stored))
 
 -- where the program stands on a mote, by its own machine there
 pub has_state : (k : Kernel) (m : Mote) (pc steps crossings : ℕ) (s : FlatState) → IsPaged m.sram m.swap → state_at (record k { mote = m }) pc steps crossings ≡ s → HasState s m

@@ -4,6 +4,7 @@ use Rattle.std.proofs.Common.{ap₂, ◌∙◌, arith, subst}
 use Rattle.std.specs.Prelude.{◌&&◌}
 use Rattle.std.proofs.lemmas.Bool.Decides.{nat_tests}
 use Rattle.std.proofs.lemmas.List.FromFn.{length-map-range_with_len, get_or-map-range_with_len}
+use Rattle.std.proofs.lemmas.Option.{same_Some}
 use Rattle.sram_layout.specs.Bytes.{byte_count, byte_at, data_word_at}
 use Rattle.sram_layout.specs.Cells.{ring_cell, entry_at}
 use Rattle.sram_layout.specs.Regions.{place_tables, is_within}
@@ -21,13 +22,15 @@ use Rattle.branch_bridge.specs.declared.arrival.Moved.{Moved}
 use Rattle.branch_bridge.specs.declared.through.Arrival.{Arrival}
 use Rattle.addr_tables.specs.Changes.{Finds, noted, is_in, forgotten_byte, forgotten}
 use Rattle.addr_tables.proofs.NoteLaws.{rest_noted}
-use Rattle.branch_bridge.specs.Arrivals.{Store, ring_of, turned, recycled_page, Makes, Made, NotMade, Recycles, NotUnlinked, NotErased, Erased, Arrives, Beyond, Found, Free, Full, ArrivesFrom}
+use Rattle.branch_bridge.specs.Arrivals.{Store, ring_of, Makes, Made, NotMade, Recycles, NotUnlinked, NotErased, Erased, Arrives, Beyond, Found, Free, Full, ArrivesFrom, CameThrough}
 use Rattle.branch_bridge.specs.Arrivals.{Stopped, Went, Resolved}
 use Rattle.branch_bridge.proofs.MakeLaws.{ring_kept}
+use Rattle.program_steps.proofs.Arriving.{is_made}
 use Rattle.theorem_reader.specs.Acts as acts
 use Rattle.theorem_reader.specs.Acts.{IsNext, Lowest, InTurn}
 use Rattle.theorem_reader.specs.Pools.{pool_size, IsErased, IsPlaceOf}
-use Rattle.theorem_reader.proofs.OtherPages.{made_stays, recycled_stays}
+use Rattle.theorem_reader.proofs.OtherPages.{IsReady, made_here, recycled_stays}
+use Rattle.theorem_reader.proofs.RefusedPages.{recycled_again}
 use Rattle.theorem_reader.proofs.Pooling.{pool_begins, in_pool, from_pool, blank_word}
 
 -- RING, as the reader reads it
@@ -49,8 +52,7 @@ unfolding forgotten byte_at
 forgets_far old page a from low =
     let apart : is_within place_tables a ≡ false = grind (arith, nat_tests) in
     let there : 0x0100 + (a - 0x0100) ≡ a = omega arith in
-    get_or-map-range_with_len (forgotten_byte old page) 0x0100 byte_count (a - 0x0100) a 0 (omega arith) there
-    ∙ ap (λ t. cond (t && is_in page (entry_at old (4 * (a / 4)))) 0 (byte_at old a)) apart
+    get_or-map-range_with_len (forgotten_byte old page) 0x0100 byte_count (a - 0x0100) a 0 (omega arith) there ∙ ap (λ t. cond (t && is_in page (entry_at old (4 * (a / 4)))) 0 (byte_at old a)) apart
 
 forgotten_long : (old : List ℕ) (page : ℕ) → length (forgotten old page) ≡ byte_count
 unfolding forgotten
@@ -60,33 +62,15 @@ ring_forgot : (old : List ℕ) (page : ℕ) → ring_of (forgotten old page) ≡
 unfolding data_word_at
 ring_forgot old page = ap₂ (λ low high. low + 256 * high) (forgets_far old page ring_cell (omega arith) (omega arith)) (forgets_far old page (ring_cell + 1) (omega arith) (omega arith))
 
--- .. and goes on where it is set to do so
-ring_turned : (layout : Layout) (sram : List ℕ) → length sram ≡ byte_count → ring_of (turned layout sram) ≡ (ring_of sram + 1) % layout.pool_pages
-ring_turned layout sram long = word_same sram ring_cell ((ring_of sram + 1) % layout.pool_pages) (omega arith) (omega (arith, long))
-
 -- where no page was made
 pub made_true : (b : Bool) → b ≡ true → b ≡ false → ⊥
 made_true b made unmade = let e : ◌≡◌ {A = Bool} true false = sym made ∙ unmade in absurd (cc)
 
-pub is_made : (layout : Layout) (old new : Store) (page t : ℕ) (again : Bool) (moved : Moved) → Makes layout old new page t again (Ok moved) → moved.made ≡ true
-is_made layout old new page t again moved (Made words place prepared done there is) =
-    let e : moved ≡ record { place = place; made = true; recycled = recycled_page again page } = cc in
-    ap (λ (m : Moved). m.made) e
-is_made layout old new page t again moved (NotMade words place prepared stop done same is) = absurd (cc)
-
-makes_none : (layout : Layout) (old new : Store) (page t : ℕ) (again : Bool) (moved : Moved) → Makes layout old new page t again (Ok moved) → moved.made ≡ false → ⊥
-makes_none layout old new page t again moved makes unmade = made_true moved.made (is_made layout old new page t again moved makes) unmade
-
-recycles_none : (layout : Layout) (old new : Store) (victim t : ℕ) (moved : Moved) → Recycles layout old new victim t (Ok moved) → moved.made ≡ false → ⊥
-recycles_none layout old new victim t moved (NotUnlinked stop done same is) unmade = absurd (cc)
-recycles_none layout old new victim t moved (NotErased unlinked done fails left forgot is) unmade = absurd (cc)
-recycles_none layout old new victim t moved (Erased unlinked done fails makes) unmade = makes_none layout _ new victim t true moved makes unmade
-
 ring_by : (layout : Layout) (old new : Store) (t : ℕ) (moved : Moved) → Arrives layout old new t (Ok moved) → moved.made ≡ false → ring_of new.sram ≡ ring_of old.sram
 ring_by layout old new t moved (Beyond out same answer) unmade = absurd (cc)
 ring_by layout old new t moved (Found place inside finds same answer) unmade = ring_found layout old.flash.words old.sram new.sram t (Some place) finds
-ring_by layout old new t moved (Free page inside finds lowest makes) unmade = absurd (makes_none layout old new page t false moved makes unmade)
-ring_by layout old new t moved (Full inside finds none recycles) unmade = absurd (recycles_none layout old new (layout.pool_first + ring_of old.sram) t moved recycles unmade)
+ring_by layout old new t moved (Free page inside finds lowest makes) unmade = absurd (made_true moved.made (is_made makes) unmade)
+ring_by layout old new t moved (Full inside finds none recycles) unmade = absurd (made_true moved.made (recycled_again layout old new (layout.pool_first + ring_of old.sram) t moved recycles).0 unmade)
 
 ring_from : (layout : Layout) (old new : Store) (t : ℕ) (stub : Option ℕ) (arrival : Arrival) (place : ℕ) → ArrivesFrom layout old new t stub arrival → arrival.made ≡ false
     → arrival.place ≡ Some place → ring_of new.sram ≡ ring_of old.sram
@@ -114,18 +98,16 @@ ring_recycled : (layout : Layout) (old new : Store) (victim t : ℕ) (moved : Mo
 ring_recycled layout old new victim t moved (NotUnlinked stop done same is) = absurd (cc)
 ring_recycled layout old new victim t moved (NotErased unlinked done fails left forgot is) = absurd (cc)
 ring_recycled layout old new victim t moved (Erased unlinked done fails makes) =
-    ring_made layout _ new victim t true moved makes ∙ ring_turned layout (forgotten old.sram victim) (forgotten_long old.sram victim)
-    ∙ ap (λ r. (r + 1) % layout.pool_pages) (ring_forgot old.sram victim)
+    ring_made layout _ new victim t true moved makes ∙ word_same (forgotten old.sram victim) ring_cell ((ring_of (forgotten old.sram victim) + 1) % layout.pool_pages) (omega arith)
+    (omega (arith, forgotten_long old.sram victim)) ∙ ap (λ r. (r + 1) % layout.pool_pages) (ring_forgot old.sram victim)
 
-next_of : (layout : Layout) (old new : Store) (t : ℕ) (moved : Moved) → IsRight layout → IsFaithful layout (image_of layout old.flash.words) old.flash.words → ring_of old.sram < layout.pool_pages
-    → Arrives layout old new t (Ok moved) → moved.made ≡ true → Next layout old new (moved.place / page_words)
-next_of layout old new t moved right code ring (Beyond out same answer) made = absurd (cc)
-next_of layout old new t moved right code ring (Found place inside finds same answer) made =
+next_of : (layout : Layout) (old new : Store) (t : ℕ) (moved : Moved) → IsReady layout old → Arrives layout old new t (Ok moved) → moved.made ≡ true → Next layout old new (moved.place / page_words)
+next_of layout old new t moved (right, code, ring) (Beyond out same answer) made = absurd (cc)
+next_of layout old new t moved (right, code, ring) (Found place inside finds same answer) made =
     absurd (let e : moved ≡ record { place = place; made = false; recycled = None } = cc in let both : true ≡ false = sym made ∙ ap (λ (m : Moved). m.made) e in cc)
-next_of layout old new t moved right code ring (Free page inside finds lowest makes) made =
-    subst (Next layout old new) (made_stays layout old new (image_of layout old.flash.words) old.flash.words page t false (Ok moved) right refl code lowest.pool lowest.free makes
-    (λ other pool away. record { free = λ free. free; runs = λ b n holds. holds })).here (First lowest (ring_made layout old new page t false moved makes))
-next_of layout old new t moved right code ring (Full inside finds none recycles) made =
+next_of layout old new t moved (right, code, ring) (Free page inside finds lowest makes) made =
+    subst (Next layout old new) (made_here layout old new page t false moved right code lowest.pool lowest.free makes) (First lowest (ring_made layout old new page t false moved makes))
+next_of layout old new t moved (right, code, ring) (Full inside finds none recycles) made =
     subst (Next layout old new) (recycled_stays layout old new (layout.pool_first + ring_of old.sram) t (Ok moved) right code (record { from = omega arith; to = omega arith }) recycles).here
     (Again none refl (ring_recycled layout old new (layout.pool_first + ring_of old.sram) t moved recycles))
 
@@ -133,19 +115,15 @@ next_after : (layout : Layout) (old mid new : Store) (page : ℕ) → ring_of ne
 next_after layout old mid new page same (First lowest ring) = First lowest (same ∙ ring)
 next_after layout old mid new page same (Again none is ring) = Again none is (same ∙ ring)
 
-next_from : (layout : Layout) (old new : Store) (t : ℕ) (stub : Option ℕ) (arrival : Arrival) (place : ℕ) → IsRight layout → IsFaithful layout (image_of layout old.flash.words) old.flash.words
-    → ring_of old.sram < layout.pool_pages
+next_from : (layout : Layout) (old new : Store) (t : ℕ) (stub : Option ℕ) (arrival : Arrival) (place : ℕ) → IsReady layout old
     → ArrivesFrom layout old new t stub arrival → arrival.made ≡ true → arrival.place ≡ Some place → Next layout old new (place / page_words)
-next_from layout old new t stub arrival place right code ring (Stopped refused arrives is) made there = absurd (let e : None ≡ Some place = sym (ap (λ (a : Arrival). a.place) is) ∙ there in cc)
-next_from layout old new t stub arrival place right code ring (Went moved arrives nothing is) made there =
-    let e : Some moved.place ≡ Some place = sym (ap (λ (a : Arrival). a.place) is) ∙ there in
-    let same : moved.place ≡ place = cc in
-    subst (λ v. Next layout old new (v / page_words)) same (next_of layout old new t moved right code ring arrives (sym (ap (λ (a : Arrival). a.made) is) ∙ made))
-next_from layout old new t stub arrival place right code ring (Resolved mid moved s arrives some stop done kept is) made there =
-    let e : Some moved.place ≡ Some place = sym (ap (λ (a : Arrival). a.place) is) ∙ there in
-    let same : moved.place ≡ place = cc in
-    let there : Next layout old mid (place / page_words) = subst (λ v. Next layout old mid (v / page_words)) same
-    (next_of layout old mid t moved right code ring arrives (sym (ap (λ (a : Arrival). a.made) is) ∙ made)) in
+next_from layout old new t stub arrival place (right, code, ring) (Stopped refused arrives is) made there = absurd (let e : None ≡ Some place = sym (ap (λ (a : Arrival). a.place) is) ∙ there in cc)
+next_from layout old new t stub arrival place (right, code, ring) (Went moved arrives nothing is) made there =
+    let same = same_Some moved.place place (sym (ap (λ (a : Arrival). a.place) is) ∙ there) in
+    subst (λ v. Next layout old new (v / page_words)) same (next_of layout old new t moved (right, code, ring) arrives (sym (ap (λ (a : Arrival). a.made) is) ∙ made))
+next_from layout old new t stub arrival place (right, code, ring) (Resolved mid moved s arrives some stop done kept is) made there =
+    let same = same_Some moved.place place (sym (ap (λ (a : Arrival). a.place) is) ∙ there) in
+    let there = rw same at (next_of layout old mid t moved (right, code, ring) arrives (sym (ap (λ (a : Arrival). a.made) is) ∙ made)) in
     next_after layout old mid new (place / page_words) (ap ring_of kept) there
 
 -- the address had no entry
@@ -179,10 +157,7 @@ erased_free layout image words page right code pool erased = elim (code.pages pa
 ]
 
 pub pool_pages_of : (image : List ℕ) → (layout_of (length image)).pool_pages ≡ pool_size image
-pool_pages_of image = elim (nat_le (length image) 16384) as (λ b. ◌≡◌ {A = ℕ} (if b then 352 else 288) (if b then 352 else 288)) [
-  | true ↦ refl
-  | false ↦ refl
-]
+pool_pages_of image = elim (nat_le (length image) 16384) as (λ b. ◌≡◌ {A = ℕ} (if b then 352 else 288) (if b then 352 else 288)) [ true ↦ refl | false ↦ refl ]
 
 -- .. by its numbers
 by_numbers : (image : List ℕ) (target : ℕ) (before after : Mote) (page : ℕ) → IsRight (layout_of (length image)) → IsFaithful (layout_of (length image)) image before.flash.words
@@ -190,8 +165,7 @@ by_numbers : (image : List ℕ) (target : ℕ) (before after : Mote) (page : ℕ
     → Next (layout_of (length image)) (record { flash = before.flash; sram = before.sram }) (record { flash = after.flash; sram = after.sram }) page → IsNext image target before after page
 unfolding byte_at data_word_at
 by_numbers image target before after page right code anew (First lowest same) =
-    Lowest (from_pool image page lowest.pool) (λ k below. blank_word before.flash.words page k lowest.free below)
-    (λ lower inside below erased. lowest.lowest lower (in_pool image lower inside) below
+    Lowest (from_pool image page lowest.pool) (λ k below. blank_word before.flash.words page k lowest.free below) (λ lower inside below erased. lowest.lowest lower (in_pool image lower inside) below
     (erased_free (layout_of (length image)) image before.flash.words lower right code (in_pool image lower inside) erased))
     same
 by_numbers image target before after page right code anew (Again none is turns) =
@@ -202,14 +176,35 @@ by_numbers image target before after page right code anew (Again none is turns) 
       turn = omega (arith, at, ring_is before, (pool_begins image).first);
     }) (turns ∙ ap (λ pages. (ring_of before.sram + 1) % pages) (pool_pages_of image))
 
-pub next_is : (image : List ℕ) (before after : Mote) (t : ℕ) (stub : Option ℕ) (arrival : Arrival) (place : ℕ) → IsRight (layout_of (length image))
-    → image_of (layout_of (length image)) before.flash.words ≡ image
-    → IsFaithful (layout_of (length image)) image before.flash.words → ring_of before.sram < (layout_of (length image)).pool_pages
-    → ((v : ℕ) → ¬ IsPlaceOf image before.flash.words t v)
-    → ArrivesFrom (layout_of (length image)) (record { flash = before.flash; sram = before.sram }) (record { flash = after.flash; sram = after.sram }) t stub arrival
-    → arrival.made ≡ true → arrival.place ≡ Some place → IsNext image t before after (place / 128)
-next_is image before after t stub arrival place right held code ring anew from made there =
-    let l = layout_of (length image) in
-    by_numbers image t before after (place / 128) right code anew
-    (next_from l (record { flash = before.flash; sram = before.sram }) (record { flash = after.flash; sram = after.sram }) t stub arrival place right
-    (subst (λ i. IsFaithful l i before.flash.words) (sym held) code) ring from made there)
+-- An arrival. ---------------------------------------------------------------------------------------------
+
+abbrev pub laid : List ℕ → Layout
+laid image = layout_of (length image)
+
+abbrev pub stored : Mote → Store
+stored m = record { flash = m.flash; sram = m.sram }
+
+-- flash before an arrival that is of this image and in order
+pub record IsBegun (image : List ℕ) (old : Store) : Type 0 where
+  pub right : IsRight (laid image)
+  pub held : image_of (laid image) old.flash.words ≡ image
+  pub code : IsFaithful (laid image) image old.flash.words
+  pub ring : ring_of old.sram < (laid image).pool_pages
+
+pub own_code : (image : List ℕ) (old : Store) → IsBegun image old → IsFaithful (laid image) (image_of (laid image) old.flash.words) old.flash.words
+own_code image old begun = subst (λ i. IsFaithful (laid image) i old.flash.words) (sym begun.held) begun.code
+
+pub ready_of : (image : List ℕ) (old : Store) → IsBegun image old → IsReady (laid image) old
+ready_of image old begun = (begun.right, own_code image old begun, begun.ring)
+
+-- .. and such an arrival, at this address
+pub record Comes (image : List ℕ) (before after : Mote) (t : ℕ) (stub : Option ℕ) (arrival : Arrival) : Type 0 where
+  pub begun : IsBegun image (stored before)
+  pub came : CameThrough (laid image) before.flash.words stub t
+  pub from : ArrivesFrom (laid image) (stored before) (stored after) t stub arrival
+
+pub next_is : (image : List ℕ) (before after : Mote) (t : ℕ) (stub : Option ℕ) (arrival : Arrival) (place : ℕ) → Comes image before after t stub arrival
+    → ((v : ℕ) → ¬ IsPlaceOf image before.flash.words t v) → arrival.made ≡ true → arrival.place ≡ Some place → IsNext image t before after (place / 128)
+next_is image before after t stub arrival place comes anew made there =
+    by_numbers image t before after (place / 128) comes.begun.right comes.begun.code anew
+    (next_from (laid image) (stored before) (stored after) t stub arrival place (ready_of image (stored before) comes.begun) comes.from made there)

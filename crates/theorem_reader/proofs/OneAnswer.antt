@@ -35,7 +35,7 @@ use Rattle.cli_requests.specs.Reading.{AsksByText, IsUnread, most_input}
 use Rattle.cli_requests.proofs.Reasons.{all_taken, taken_of}
 use Rattle.tkernel_cli.specs.declared.top.Exit.{Exit}
 use Rattle.tkernel_cli.specs.Answer.{Does}
-use Rattle.tkernel_cli.specs.Runs.{Says, Runs, RunsToTheEnd, RunsUntilCut, own_program, original_of, whole_run, checkpoints_of, count_line_of, ended_text, failed_text, first_start}
+use Rattle.tkernel_cli.specs.Runs.{Says, Runs, RunsToTheEnd, RunsUntilCut, own_program, original_of, whole_run, checkpoints_of, ended_text, failed_text, first_start}
 use Rattle.tkernel_cli.specs.DumpRuns.{silent}
 use Rattle.tkernel_cli.specs.RestartRuns.{HasRestarted, RunsOver, lost_flash, refused_in, second_start}
 use Rattle.tkernel_cli.specs.TasksRuns.{RunsTasks, all_told, worst}
@@ -98,12 +98,15 @@ pub record Served (words : List (List ℕ)) : Type 0 where
   pub by : Answered words
   pub none : by.faults ≡ 0
 
+-- a text that a call says, and its status
+abbrev Said : (words : List (List ℕ)) → Answered words → Status → List ℕ → Type 0
+Said words by own whole = Says own whole by.call.sink by.call.sink' by.exit.status
+
 -- a text that such a call said, and its status
 unrisen : (words : List (List ℕ)) (one : Served words) → Rose one.by.call.sink.faults one.by.call.sink'.faults → ⊥
 unrisen words one rose = let call = one.by.call in not_risen call.sink.faults call.sink'.faults call.sound (call.faults_are ∙ one.none) rose
 
-told_whole : (words : List (List ℕ)) (one : Served words) (own : Status) (whole : List ℕ) → Says own whole one.by.call.sink one.by.call.sink' one.by.exit.status
-    → (one.by.status ≡ number_of own) × (one.by.taken ≡ whole)
+told_whole : (words : List (List ℕ)) (one : Served words) (own : Status) (whole : List ℕ) → Said words one.by own whole → (one.by.status ≡ number_of own) × (one.by.taken ≡ whole)
 told_whole words one own whole said =
     let call = one.by.call in
     elim said [
@@ -121,16 +124,14 @@ TellsAgain words one other = Somehow other.call.sink other.call.sink' (Again wor
 one_wanting : (words : List (List ℕ)) (one : Served words) (other : Answered words) → one.by.status ≡ 8 → TellsAgain words one other
 one_wanting words one other is = (Serves, tt, inr (inl is))
 
-other_wanting : (words : List (List ℕ)) (one : Served words) (other : Answered words) → Says statuses.NoMemory no_memory_line other.call.sink other.call.sink' other.exit.status
-    → TellsAgain words one other
+other_wanting : (words : List (List ℕ)) (one : Served words) (other : Answered words) → Said words other statuses.NoMemory no_memory_line → TellsAgain words one other
 other_wanting words one other said =
     so_then other.call.sink other.call.sink' _ (Again words one other) (λ sink told. inr (inr told))
     (told_how words other.exit other.status other.faults other.taken other.call statuses.NoMemory no_memory_line said)
 
 -- both say the same
-said_again : (words : List (List ℕ)) (one : Served words) (other : Answered words) (own : Status) (whole whole' : List ℕ) → whole' ≡ whole
-    → Says own whole one.by.call.sink one.by.call.sink' one.by.exit.status
-    → Says own whole' other.call.sink other.call.sink' other.exit.status → TellsAgain words one other
+said_again : (words : List (List ℕ)) (one : Served words) (other : Answered words) (own : Status) (whole whole' : List ℕ) → whole' ≡ whole → Said words one.by own whole → Said words other own whole'
+    → TellsAgain words one other
 said_again words one other own whole whole' same said said' =
     let is = told_whole words one own whole said in
     so_then other.call.sink other.call.sink' _ (Again words one other)
@@ -145,13 +146,11 @@ front_of part front rest is = record {
   is = is.is ∙ sym (take-append-le is.count front rest (omega (arith, is.less)));
 }
 
-front_again : (words : List (List ℕ)) (one : Served words) (other : Answered words) (own : Status) (whole front rest : List ℕ) → whole ≡ front ++ rest
-    → Says own whole one.by.call.sink one.by.call.sink' one.by.exit.status
+front_again : (words : List (List ℕ)) (one : Served words) (other : Answered words) (own : Status) (whole front rest : List ℕ) → whole ≡ front ++ rest → Said words one.by own whole
     → other.exit.status ≡ statuses.WriteFault → Rose other.call.sink.faults other.call.sink'.faults → CutShort other.call.sink.told other.call.sink'.told front → TellsAgain words one other
 front_again words one other own whole front rest split said cut rose put =
-    let is = told_whole words one own whole said in
     let told = cut_by words other.exit other.status other.faults other.taken other.call front cut put in
-    (Fails, rose, inl (told.0, subst (IsFront other.taken) (sym (is.1 ∙ split)) (front_of other.taken front rest told.1)))
+    (Fails, rose, inl (told.0, subst (IsFront other.taken) (sym ((told_whole words one own whole said).1 ∙ split)) (front_of other.taken front rest told.1)))
 
 -- Two runs. -----------------------------------------------------------------------------------------------
 
@@ -170,17 +169,8 @@ record EndsWith (text lines : List ℕ) : Type 0 where
   last : List ℕ
   is : text ≡ lines ++ last
 
-ended_with : (request : Request) (m : Machine) → EndsWith (ended_text request m) (lines_text (whole_run request).lines)
-ended_with request m =
-    let r = whole_run request in
-    let stop = stop_text r.end r.state.now.steps (checkpoints_of request r) in
-    record { last = stop ++ count_line_of m; is = append_assoc (lines_text r.lines) stop (count_line_of m) }
-
-failed_with : (request : Request) (op : ℕ) (m : Machine) → EndsWith (failed_text request op m) (lines_text (original_of request m.steps).lines)
-failed_with request op m =
-    let r = original_of request m.steps in
-    let stop = end_line (ends.Flash op) m.steps (checkpoints_of request r) in
-    record { last = stop ++ count_line_of m; is = append_assoc (lines_text r.lines) stop (count_line_of m) }
+ends_with : (lines stop count : List ℕ) → EndsWith (lines ++ stop ++ count) lines
+ends_with lines stop count = record { last = stop ++ count; is = append_assoc lines stop count }
 
 -- the lines of fewer steps are the front of those of more
 record LinesBehind (request : Request) (n m : ℕ) : Type 0 where
@@ -196,7 +186,7 @@ lines_behind request n m less =
 
 -- the other one's sink failed in the midst of its lines, where the machine had made no more steps
 cut_again : (words : List (List ℕ)) (one : Served words) (other : Answered words) (request : Request) (own : Status) (front front' text : List ℕ) (steps : ℕ) (start n : Machine) → front ≡ front'
-    → EndsWith text (lines_text (original_of request steps).lines) → n.steps ≤ steps → Says own (front ++ text) one.by.call.sink one.by.call.sink' one.by.exit.status
+    → EndsWith text (lines_text (original_of request steps).lines) → n.steps ≤ steps → Said words one.by own (front ++ text)
     → RunsUntilCut request start front' other.call.sink other.call.sink' other.exit.status n → TellsAgain words one other
 cut_again words one other request own front front' text steps start n same with less said run =
     let behind = lines_behind request n.steps steps less in
@@ -210,30 +200,29 @@ ran_again : (words : List (List ℕ)) (one : Served words) (other : Answered wor
     → Runs request other.call.sink other.call.sink' other.exit.status n → TellsAgain words one other
 ran_again words one other request m n (Runs.Cut run) second = absurd (unrisen words one run.rose)
 ran_again words one other request m n (Runs.Ended unlisted run) (Runs.Ended unlisted' run') =
-    let same = to_the_end request (first_start request) [] [] _ _ _ _ _ _ m n (begins_at_boot request) run run' in
+    let same = to_the_end request (first_start request) m n (begins_at_boot request) run run' in
     said_again words one other _ (ended_text request m) (ended_text request n) (ended_alike request m n same) run.said run'.said
-ran_again words one other request m n (Runs.Ended unlisted run) (Runs.Failed run') = absurd (never_both request [] _ _ _ _ _ _ m n (begins_at_boot request) run run')
+ran_again words one other request m n (Runs.Ended unlisted run) (Runs.Failed run') = absurd (never_both request m n (begins_at_boot request) run run')
 ran_again words one other request m n (Runs.Ended unlisted run) (Runs.Cut run') =
-    cut_again words one other request _ [] [] (ended_text request m) request.options.steps (first_start request) n refl (ended_with request m) run'.within run.said run'
-ran_again words one other request m n (Runs.Failed run) (Runs.Ended unlisted' run') = absurd (never_both request [] _ _ _ _ _ _ n m (begins_at_boot request) run' run)
+    cut_again words one other request _ [] [] (ended_text request m) request.options.steps (first_start request) n refl (ends_with _ _ _) run'.within run.said run'
+ran_again words one other request m n (Runs.Failed run) (Runs.Ended unlisted' run') = absurd (never_both request n m (begins_at_boot request) run' run)
 ran_again words one other request m n (Runs.Failed run) (Runs.Failed run') =
-    let same = into_a_fault request _ _ _ _ _ _ m n (begins_at_boot request) run run' in
+    let same = into_a_fault request m n (begins_at_boot request) run run' in
     let at = run'.last ∙ sym (ap (λ (s : State). s.kernel.mote.flash.ops) same.state) ∙ sym run.last in
     said_again words one other statuses.FlashFault (failed_text request run.op m) (failed_text request run'.op n) (failed_alike request run.op run'.op m n at same) run.said run'.said
 ran_again words one other request m n (Runs.Failed run) (Runs.Cut run') =
-    cut_again words one other request _ [] [] (failed_text request run.op m) m.steps (first_start request) n refl (failed_with request run.op m)
-    (cut_before request _ _ _ _ _ _ m n (begins_at_boot request) run run') run.said run'
+    cut_again words one other request _ [] [] (failed_text request run.op m) m.steps (first_start request) n refl (ends_with _ _ _)
+    (cut_before request m n (begins_at_boot request) run run') run.said run'
 
 -- the machines of two runs whose lines go nowhere
 silently : Rose silent.faults silent.faults → ⊥
 silently rose = not_risen 0 0 refl refl rose
 
 same_silently : (request : Request) (told told' : Status) (m n : Machine) → Runs request silent silent told m → Runs request silent silent told' n → IsSame m n
-same_silently request told told' m n (Runs.Ended unlisted run) (Runs.Ended unlisted' run') =
-    to_the_end request (first_start request) [] [] silent silent silent silent told told' m n (begins_at_boot request) run run'
-same_silently request told told' m n (Runs.Ended unlisted run) (Runs.Failed run') = absurd (never_both request [] silent silent silent silent told told' m n (begins_at_boot request) run run')
-same_silently request told told' m n (Runs.Failed run) (Runs.Ended unlisted' run') = absurd (never_both request [] silent silent silent silent told' told n m (begins_at_boot request) run' run)
-same_silently request told told' m n (Runs.Failed run) (Runs.Failed run') = into_a_fault request silent silent silent silent told told' m n (begins_at_boot request) run run'
+same_silently request told told' m n (Runs.Ended unlisted run) (Runs.Ended unlisted' run') = to_the_end request (first_start request) m n (begins_at_boot request) run run'
+same_silently request told told' m n (Runs.Ended unlisted run) (Runs.Failed run') = absurd (never_both request m n (begins_at_boot request) run run')
+same_silently request told told' m n (Runs.Failed run) (Runs.Ended unlisted' run') = absurd (never_both request n m (begins_at_boot request) run' run)
+same_silently request told told' m n (Runs.Failed run) (Runs.Failed run') = into_a_fault request m n (begins_at_boot request) run run'
 same_silently request told told' m n (Runs.Cut run) second = absurd (silently run.rose)
 same_silently request told told' m n first (Runs.Cut run') = absurd (silently run'.rose)
 
@@ -262,10 +251,10 @@ record LeftAlike (left left' : Memory) (told told' : Kept) : Type 0 where
   told_same : told' ≡ told
   erases : (page : ℕ) → slice_index left.erases page ≡ slice_index left'.erases page
 
-left_alike : (request : Request) (before now before' now' : Stream) (told told' : Status) (kept kept' : Option Machine) (done : HasRestarted request before now told kept)
+left_alike : {before now before' now' : Stream} {told told' : Status} {kept kept' : Option Machine} (request : Request) (done : HasRestarted request before now told kept)
     (done' : HasRestarted request before' now' told' kept')
     → LeftAlike done.left done'.left done.told done'.told
-left_alike request before now before' now' told told' kept kept' done done' =
+left_alike request done done' =
     let l = layout_of (length request.image) in
     let same = same_silently request done.ended done'.ended done.first done'.first done.runs done'.runs in
     let lost : lost_flash done'.first ≡ lost_flash done.first =
@@ -277,8 +266,7 @@ left_alike request before now before' now' told told' kept kept' done done' =
     record {
       words = one.0;
       told_same = one.1;
-      erases = λ page. erased_alike (lost_flash done.first) done.left done'.left page one.0
-          (turned l request.image (lost_flash done.first) done.left done.told page right whole done.restarts)
+      erases = λ page. erased_alike (lost_flash done.first) done.left done'.left page one.0 (turned l request.image (lost_flash done.first) done.left done.told page right whole done.restarts)
           (turned l request.image (lost_flash done.first) done'.left done'.told page right whole restarts');
     }
 
@@ -291,25 +279,23 @@ begins_over : (request : Request) (words erases : List ℕ) → IsFaithful (layo
 begins_over request words erases faithful = record { holds = record { laid = refl; held = faithful.held; counts = refl }; none = refl }
 
 -- of each page of flash the erases are counted
-counted_all : (request : Request) (words erases front : List ℕ) (before now : Stream) (told : Status) (m : Machine) → IsFaithful (layout_of (length request.image)) request.image words
+counted_all : {front : List ℕ} {before now : Stream} {told : Status} (request : Request) (words erases : List ℕ) (m : Machine) → IsFaithful (layout_of (length request.image)) request.image words
     → RunsToTheEnd request (start_over request words erases) front before now told m → length erases ≡ 512
-counted_all request words erases front before now told m faithful run =
+counted_all request words erases m faithful run =
     let start = start_over request words erases in
     let path = run.follows.at.path in
     let acts = follow request.image request.options.quantum (state_of start) path.moves (state_of m) path.goes.walk (begins_over request words erases faithful).holds in
     sym (acts_erases request.image request.options.quantum _ start.kernel.mote m.kernel.mote acts.follow) ∙ run.follows.sound.order.whole.erases
 
 -- both came to the end
-restarted_same : (request : Request) (words words' erases erases' front front' : List ℕ) (before now before' now' : Stream) (told told' : Status) (m n : Machine)
+restarted_same : {front front' : List ℕ} {before now before' now' : Stream} {told told' : Status} (request : Request) (words words' erases erases' : List ℕ) (m n : Machine)
     → IsFaithful (layout_of (length request.image)) request.image words
     → IsFaithful (layout_of (length request.image)) request.image words' → words ≡ words' → ((page : ℕ) → slice_index erases page ≡ slice_index erases' page)
     → RunsToTheEnd request (start_over request words erases) front before now told m → RunsToTheEnd request (start_over request words' erases') front' before' now' told' n → IsSame m n
-restarted_same request words words' erases erases' front front' before now before' now' told told' m n faithful faithful' same each run run' =
-    let long = counted_all request words erases front before now told m faithful run ∙ sym (counted_all request words' erases' front' before' now' told' n faithful' run') in
+restarted_same request words words' erases erases' m n faithful faithful' same each run run' =
+    let long = counted_all request words erases m faithful run ∙ sym (counted_all request words' erases' n faithful' run') in
     let counts : erases ≡ erases' = same_number_lists erases erases' long (λ page within. each page) in
-    let start = ap₂ (start_over request) (sym same) (sym counts) in
-    to_the_end request (start_over request words erases) front front' before now before' now' told told' m n (begins_over request words erases faithful) run
-    (subst (λ s. RunsToTheEnd request s front' before' now' told' n) start run')
+    to_the_end request (start_over request words erases) m n (begins_over request words erases faithful) run (rw (← same, ← counts) at run')
 
 restarted_again : (words : List (List ℕ)) (one : Served words) (other : Answered words) (request : Request)
     (done : HasRestarted request one.by.call.sink one.by.call.sink' one.by.exit.status one.by.exit.kept)
@@ -319,7 +305,7 @@ restarted_again : (words : List (List ℕ)) (one : Served words) (other : Answer
 restarted_again words one other request done done' (RunsOver.Unbegun none) second = absurd (unrisen words one none.rose)
 restarted_again words one other request done done' (RunsOver.Cut run) second = absurd (unrisen words one run.rose)
 restarted_again words one other request done done' (RunsOver.Ended run) second =
-    let alike = left_alike request _ _ _ _ _ _ _ _ done done' in
+    let alike = left_alike request done done' in
     let line : restart_text done.told.kept done.told.dropped ≡ restart_text done'.told.kept done'.told.dropped = ap (λ (t : Kept). restart_text t.kept t.dropped) (sym alike.told_same) in
     let m = done.machine in
     let n = done'.machine in
@@ -330,10 +316,9 @@ restarted_again words one other request done done' (RunsOver.Ended run) second =
           (ap (λ text. text ++ ended) line) run.said none.status_is none.rose none.put
       | RunsOver.Cut run' ↦
           cut_again words one other request _ (restart_text done.told.kept done.told.dropped) (restart_text done'.told.kept done'.told.dropped) ended request.options.steps
-          (second_start request done'.left) n line (ended_with request m) run'.within run.said run'
+          (second_start request done'.left) n line (ends_with _ _ _) run'.within run.said run'
       | RunsOver.Ended run' ↦
-          let same =
-          restarted_same request done.left.words done'.left.words done.left.erases done'.left.erases _ _ _ _ _ _ _ _ m n done.faithful done'.faithful (sym alike.words) alike.erases run run' in
+          let same = restarted_same request done.left.words done'.left.words done.left.erases done'.left.erases m n done.faithful done'.faithful (sym alike.words) alike.erases run run' in
           said_again words one other _ (restart_text done.told.kept done.told.dropped ++ ended) (restart_text done'.told.kept done'.told.dropped ++ ended_text request n)
           (ap₂ (λ a b. a ++ b) (sym line) (ended_alike request m n same)) run.said run'.said
     ]
@@ -344,9 +329,9 @@ turned_again : (words : List (List ℕ)) (one : Served words) (other : Answered 
     → RunsTasks request one.by.call.sink one.by.call.sink' one.by.exit.status t → RunsTasks request other.call.sink other.call.sink' other.exit.status u → TellsAgain words one other
 turned_again words one other request t u (RunsTasks.Cut run) second = absurd (unrisen words one run.rose)
 turned_again words one other request t u (RunsTasks.Ended run) (RunsTasks.Ended run') =
-    let same = to_their_ends request _ _ _ _ _ _ t u run run' in
+    let same = to_their_ends request t u run run' in
     said_again words one other (worst statuses.Done t.tasks) (turns_text request t) (turns_text request u) same.text run.said
-    (subst (λ own. Says own (turns_text request u) other.call.sink other.call.sink' other.exit.status) same.status run'.said)
+    (subst (λ own. Said words other own (turns_text request u)) same.status run'.said)
 turned_again words one other request t u (RunsTasks.Ended run) (RunsTasks.Cut run') =
     front_again words one other (worst statuses.Done t.tasks) (turns_text request t) (told_text request.options.quantum (all_told request))
     (tasks_count_text t.natural t.entries t.pages t.switches) refl run.said run'.status_is run'.rose run'.front
@@ -373,8 +358,7 @@ done_twice words one other (jobs.Restart request script) done done' = restarted_
 done_twice words one other (jobs.Tasks request) done done' = turned_again words one other request done.tasks done'.tasks done.runs done'.runs
 
 pub answered_twice : (words : List (List ℕ)) (one : Served words) (other : Answered words) (text : List ℕ) → Tells one.by.call.source one.by.call.source' text
-    → Tells other.call.source other.call.source' text
-    → IsSoThen other.faults (Again words one other)
+    → Tells other.call.source other.call.source' text → IsSoThen other.faults (Again words one other)
 answered_twice words one other text tells tells' =
     let call = one.by.call in
     let job = call.answer.job in

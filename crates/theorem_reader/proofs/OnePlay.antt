@@ -1,5 +1,5 @@
 -- Two runs of the same programs on one mote, from one start: each try leaves the same mote, the same counts and the same turns.
-use Rattle.std.proofs.Common.{◌≡◌, ◌≢◌, ℕ, ◌+◌, ◌-◌, Bool, false, true, List, [], ◌∷◌, ◌++◌, length, map, Option, Some, None, refl, sym, ap, ap₂, ◌∙◌, subst, arith}
+use Rattle.std.proofs.Common.{◌≡◌, ℕ, ◌+◌, ◌-◌, Bool, false, true, List, [], ◌∷◌, ◌++◌, length, map, Option, Some, None, refl, sym, ap, ap₂, ◌∙◌, subst, arith}
 use Rattle.std.specs.Prelude.{is_some, slice_get, slice_set, sum_by}
 use Rattle.std.specs.Option.{option_map}
 use Rattle.std.proofs.lemmas.List.{map-set}
@@ -12,8 +12,6 @@ use Rattle.kernel_entry.specs.Parts.{image_held}
 use Rattle.kernel_entry.specs.declared.kernel.Kernel.{Kernel}
 use Rattle.kernel_entry.specs.declared.kernel.Owed.{Owed}
 use Rattle.kernel_entry.specs.declared.kernel.End.{End}
-use Rattle.kernel_entry.specs.declared.kernel.End.TheVariants as ends
-use Rattle.kernel_entry.specs.declared.kernel.Stop.{Stop}
 use Rattle.step_laws.specs.Moves.{Move}
 use Rattle.step_laws.specs.Numbers.{Numbers, numbered}
 use Rattle.step_laws.specs.States.{Awaited, State}
@@ -43,7 +41,7 @@ use Rattle.tkernel_cli.specs.Runs.{status_of_end}
 use Rattle.tkernel_cli.specs.TasksRuns.{RunsTasksToTheEnd, start_of, all_told, worse, worst, status_of_task}
 use Rattle.theorem_reader.proofs.Acting.{Holds, follow}
 use Rattle.theorem_reader.proofs.Answering.{layout_same}
-use Rattle.theorem_reader.proofs.OneRun.{both_ended}
+use Rattle.theorem_reader.proofs.OneRun.{both_ended, ended}
 use Rattle.walk_laws.proofs.OneWalk.{compare}
 use Rattle.theorem_reader.proofs.OneWalk.{IsStep, step_is, same_step, AreSame}
 
@@ -70,9 +68,6 @@ record AreAlike (t u : Tasks) : Type 0 where
 record StandAlike (n : ℕ) (t u : Tasks) : Type 0 where
   turns : turns_of n t ≡ turns_of n u
   like : AreAlike t u
-
-alike_itself : (n : ℕ) (t : Tasks) → StandAlike n t t
-alike_itself n t = record { turns = refl; like = record { running = refl; kernel = refl; pages = refl; tasks = refl; owed = refl } }
 
 bare_there : (tasks : List Task) (i : ℕ) (task : Task) → slice_get tasks i ≡ Some task → slice_get (map bare tasks) i ≡ Some (bare task)
 bare_there tasks i task there = slice_get-map bare tasks i ∙ ap (option_map bare) there
@@ -123,23 +118,17 @@ begin_alike n t new u new' play play' alike one other =
     let others : others_of t task ≡ others_of u task' = ap₂ (λ sum (x : Task). sum - arrivals_of x) (sum_like arrivals_of t u (λ x. refl) like) same in
     record {
       player = player;
-      state = state_is t t.running task one.sound.part alone
-          ∙ ap₂ (λ k o. state_by k o task.due (machine_end task.end)) like.kernel owed
+      state = state_is t t.running task one.sound.part alone ∙ ap₂ (λ k o. state_by k o task.due (machine_end task.end)) like.kernel owed
           ∙ ap₂ (λ d e. state_by u.kernel (owed_of task'.owed u.stub) d (machine_end e)) (ap (λ (p : Player). p.moment.due) player) (one.going ∙ sym other.going)
           ∙ sym (state_is u u.running task' other.sound.part alone');
-      numbers = numbers_is t t.running task alone
-          ∙ ap₂ (λ (x : Task) others. numbers_by x t.pages others t.kernel.mote.flash.ops) same others
-          ∙ ap₂ (λ pages (k : Kernel). numbers_by task' pages (others_of u task') k.mote.flash.ops) like.pages like.kernel
-          ∙ sym (numbers_is u u.running task' alone');
+      numbers = numbers_is t t.running task alone ∙ ap₂ (λ (x : Task) others. numbers_by x t.pages others t.kernel.mote.flash.ops) same others
+          ∙ ap₂ (λ pages (k : Kernel). numbers_by task' pages (others_of u task') k.mote.flash.ops) like.pages like.kernel ∙ sym (numbers_is u u.running task' alone');
     }
 
 -- The moves of a try. -------------------------------------------------------------------------------------
 
 is_step : (at : ℕ) (moves : List Move) → AreAStep at moves → IsStep moves
 is_step at moves made = subst IsStep (sym made.parts) (step_is at made.arrival made.own made.arrives made.makes)
-
-has_stopped : (m : Machine) (stop : Stop) → m.end ≡ Some (ends.Stopped stop) → m.end ≢ None
-has_stopped m stop is none = let e : Some (ends.Stopped stop) ≡ None = sym is ∙ none in absurd (cc)
 
 no_moves : (y m : State) (moves : List Move) → moves ≡ [] → Walk y moves m → y ≡ m
 no_moves y m moves none walk = subst (λ l. Walk y l m) none walk
@@ -151,7 +140,7 @@ same_try image quantum start m n at at' ms ns (Over Spent) right holds walk walk
 same_try image quantum start m n at at' ms ns (Over (Wild pc)) right holds walk walk' none none' =
     (none ∙ sym none', sym (no_moves (state_of start) (state_of m) ms none walk) ∙ no_moves (state_of start) (state_of n) ns none' walk')
 same_try image quantum start m n at at' ms ns (Over _) right holds walk walk' made made' =
-    both_ended image quantum start m n ms ns right holds walk walk' (has_stopped m made.stop made.stops) (has_stopped n made'.stop made'.stops)
+    both_ended image quantum start m n ms ns right holds walk walk' (ended m _ made.stops) (ended n _ made'.stops)
 same_try image quantum start m n at at' ms ns (Gone line checkpoint next) right holds walk walk' made made' =
     same_step image quantum m n ms ns (follow image quantum (state_of start) ms (state_of m) walk holds).holds (follow image quantum (state_of start) ns (state_of n) walk' holds).holds
     made.ready made'.ready (is_step at ms made.step) (is_step at' ns made'.step) (compare (state_of start) (state_of m) (state_of n) ms ns (subst IsRight (sym holds.laid) right) walk walk')
@@ -377,15 +366,15 @@ tell_alike request n t u alike =
     let natural = sum_like (λ (task : Task). task.natural) u t (λ x. refl) alike.like in
     let entries = sum_like (λ (task : Task). task.entries) u t (λ x. refl) alike.like in
     record {
-      text = ap₂ (λ a b. text a b u.pages u.switches) natural entries
-          ∙ ap₂ (text (counted t false).natural (counted t false).entries) alike.like.pages (ap (λ (s : Turns). s.switches) alike.turns);
+      text = ap₂ (λ a b. text a b u.pages u.switches) natural entries ∙ ap₂ (text (counted t false).natural (counted t false).entries) alike.like.pages (ap (λ (s : Turns). s.switches) alike.turns);
       status = same_worst n u t 0 statuses.Done u.tasks t.tasks (ap (λ (s : Turns). s.players) alike.turns);
     }
 
-pub to_their_ends : (request : TaskRequest) (before now before' now' : Stream) (told told' : Status) (t u : Tasks)
+pub to_their_ends : {before now before' now' : Stream} {told told' : Status} (request : TaskRequest) (t u : Tasks)
     → RunsTasksToTheEnd request before now told t → RunsTasksToTheEnd request before' now' told' u → TellAlike request t u
-to_their_ends request before now before' now' told told' t u run run' =
+to_their_ends request t u run run' =
     let n = request.options.steps in
     let start = start_of request in
-    let alike = same_end n start start run'.last run.last run'.plays run.plays (alike_itself n start) run'.path run.path run'.ended run.ended in
+    let alike = same_end n start start run'.last run.last run'.plays run.plays
+    (record { turns = refl; like = record { running = refl; kernel = refl; pages = refl; tasks = refl; owed = refl } }) run'.path run.path run'.ended run.ended in
     subst (TellAlike request t) (sym run'.is) (subst (λ (z : Tasks). TellAlike request z (counted run'.last false)) (sym run.is) (tell_alike request n run.last run'.last alike))

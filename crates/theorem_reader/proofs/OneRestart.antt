@@ -28,10 +28,7 @@ performed_erases [] m = refl
 performed_erases (operation ∷ operations) m =
     let refused : Performed = record { memory = left_by_refusal m (operated_page operation); refusal = Some (record { op = next_op m; operation = operation }) } in
     let Long : Bool → Type 0 = λ b. length (if b then refused else perform (operated m operation) operations).memory.erases ≡ length m.erases in
-    elim (fails m) as Long [
-      | true ↦ refl
-      | false ↦ performed_erases operations (operated m operation) ∙ operated_erases m operation
-    ]
+    elim (fails m) as Long [ true ↦ refl | false ↦ performed_erases operations (operated m operation) ∙ operated_erases m operation ]
 
 pub acts_erases : (image : List ℕ) (quantum : ℕ) (acts : List Act) (first last : Mote) → Follow image quantum first acts last → length last.flash.erases ≡ length first.flash.erases
 acts_erases image quantum [] first last same = ap (λ (m : Mote). length m.flash.erases) (sym same)

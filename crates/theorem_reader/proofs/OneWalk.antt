@@ -16,18 +16,14 @@ use Rattle.walk_laws.proofs.OneWalk.{free_or_owed, true_or_false, Compare, Behin
 use Rattle.theorem_reader.proofs.Acting.{Holds, follow}
 use Rattle.theorem_reader.proofs.Pooling.{place_low}
 use Rattle.theorem_reader.proofs.Stepwise.{place_by, last_alone}
-use Rattle.theorem_reader.proofs.Stopping.{IsStop, none_on, serve_stops, stays_over, unmade_stops}
+use Rattle.theorem_reader.proofs.Stopping.{IsStop, none_on, serve_ends, stays_over, unmade_stops}
 
 -- no step is taken back where the program doesn't stop by itself
 pub none_back : (x z : State) (rest : List Move) (n : Numbers) → Walk x rest z → (IsStop z.end → ⊥) → n.steps ≤ (numbered rest n).steps
 unfolding moved
 none_back x z [] n walk on = omega arith
-none_back x z (Begin line ∷ rest) n walk on = omega (arith, none_back walk.0 z rest (moved (Begin line) n) walk.2 on)
-none_back x z (Within (Plain line) ∷ rest) n walk on = omega (arith, none_back walk.0 z rest (moved (Within (Plain line)) n) walk.2 on)
-none_back x z (Within (Serve line true) ∷ rest) n walk on = absurd (on (stays_over walk.0 rest z walk.2 (serve_stops x walk.0 line true walk.1 refl)))
-none_back x z (Within (Serve line false) ∷ rest) n walk on = omega (arith, none_back walk.0 z rest (moved (Within (Serve line false)) n) walk.2 on)
-none_back x z (Arrive target made ops ∷ rest) n walk on = omega (arith, none_back walk.0 z rest (moved (Arrive target made ops) n) walk.2 on)
-none_back x z (Take stops ∷ rest) n walk on = omega (arith, none_back walk.0 z rest (moved (Take stops) n) walk.2 on)
+none_back x z (Within (Serve line true) ∷ rest) n walk on = absurd (on (stays_over walk.0 rest z walk.2 ((serve_ends x walk.0 line true walk.1).over refl)))
+none_back x z (move ∷ rest) n walk on = omega (arith, none_back walk.0 z rest (moved move n) walk.2 on)
 
 -- One step. -----------------------------------------------------------------------------------------------
 
@@ -39,8 +35,7 @@ no_inner image quantum m z (Plain line) due holds ready makes (Reaches.Owing stu
 no_inner image quantum m z (Serve line stops) due holds ready makes (Reaches.Placed undue none enters) =
     let place = place_by image quantum m m.at due holds ready none (Reaches.Placed undue none enters) in
     let low = (place_low image m.kernel.mote.flash.words m.at m.kernel.mote.cpu.pc place).1 in
-    let high = entry_high m.kernel makes.can in
-    omega (arith, low, high)
+    omega (arith, low, (entry_high m.kernel makes.can))
 no_inner image quantum m z (Serve line stops) due holds ready makes (Reaches.Owing stub alone owes leads) = free_or_owed (state_of m) _ makes.free owes
 
 -- all are in the midst of a step
@@ -68,11 +63,8 @@ whole_is own (Taking stops is) = subst IsWhole (sym is) refl
 whole_is own (Making line rest is few serves) = subst IsWhole (sym is) (all_inner rest)
 
 as_step : (own : List Move) → IsWhole own → IsStep own
-as_step [] whole = absurd whole
-as_step (Begin line ∷ moves) whole = whole
-as_step (Within inner ∷ moves) whole = absurd whole
 as_step (Arrive target made ops ∷ moves) whole = absurd whole
-as_step (Take stops ∷ moves) whole = whole
+as_step moves whole = whole
 
 pub step_is : (t : ℕ) (arrival own : List Move) → IsArrival t arrival → AreOwn own → IsStep (arrival ++ own)
 step_is t arrival own (NoArrival none) makes = subst (λ a. IsStep (a ++ own)) (sym none) (as_step own (whole_is own makes))
@@ -80,32 +72,24 @@ step_is t arrival own (OneArrival made ops one) makes = subst (λ a. IsStep (a +
 
 inner_behind : (ms rest : List Move) → AreInner (ms ++ rest) → AreInner rest
 inner_behind [] rest all = all
-inner_behind (Begin line ∷ ms) rest all = absurd all
 inner_behind (Within inner ∷ ms) rest all = inner_behind ms rest all
-inner_behind (Arrive target made ops ∷ ms) rest all = absurd all
-inner_behind (Take stops ∷ ms) rest all = absurd all
+inner_behind (move ∷ ms) rest all = absurd all
 
 whole_behind : (ms rest : List Move) → IsWhole ms → IsWhole (ms ++ rest) → AreInner rest
-whole_behind [] rest one other = absurd one
 whole_behind (Begin line ∷ ms) rest one other = inner_behind ms rest other
-whole_behind (Within inner ∷ ms) rest one other = absurd one
-whole_behind (Arrive target made ops ∷ ms) rest one other = absurd one
 whole_behind (Take stops ∷ ms) rest one other = subst AreInner (sym (sym (ap (λ l. l ++ rest) one) ∙ other)) tt
+whole_behind moves rest one other = absurd one
 
 step_behind : (ms rest : List Move) → IsStep ms → IsStep (ms ++ rest) → AreInner rest
 step_behind [] rest one other = absurd one
-step_behind (Begin line ∷ ms) rest one other = whole_behind (Begin line ∷ ms) rest one other
-step_behind (Within inner ∷ ms) rest one other = absurd one
 step_behind (Arrive target made ops ∷ ms) rest one other = whole_behind ms rest one other
-step_behind (Take stops ∷ ms) rest one other = whole_behind (Take stops ∷ ms) rest one other
+step_behind (move ∷ ms) rest one other = whole_behind (move ∷ ms) rest one other
 
 none_behind : (image : List ℕ) (quantum : ℕ) (m : Machine) (z : State) (rest : List Move) → Holds image quantum (state_of m) → IsGoing m → AreInner rest → Walk (state_of m) rest z
     → (rest ≡ []) × (state_of m ≡ z)
 none_behind image quantum m z [] holds ready all walk = (refl, walk)
-none_behind image quantum m z (Begin line ∷ rest) holds ready all walk = absurd all
 none_behind image quantum m z (Within inner ∷ rest) holds ready all walk = absurd (no_inner image quantum m walk.0 inner (awaits m) holds ready walk.1 ready.stands)
-none_behind image quantum m z (Arrive target made ops ∷ rest) holds ready all walk = absurd all
-none_behind image quantum m z (Take stops ∷ rest) holds ready all walk = absurd all
+none_behind image quantum m z (move ∷ rest) holds ready all walk = absurd all
 
 -- Many steps. ---------------------------------------------------------------------------------------------
 

@@ -49,8 +49,7 @@ abbrev its_acts : ℕ → Stint → List Act
 its_acts task stint = cond (eqb stint.task task) stint.acts []
 
 idle_stint : (image : List ℕ) (task : ℕ) (t : Turns) (stint : Stint) (p : Player) (before : Mote) → slice_get t.players t.running ≡ Some p → p.end ≡ None → stint.task ≡ t.running
-    → AreOfTry image p.moment before stint.acts (played p)
-    → IsFresh task t → steps_in (its_acts task stint) ≡ 0 → IsFresh task (once t p).turns × (its_acts task stint ≡ [])
+    → AreOfTry image p.moment before stint.acts (played p) → IsFresh task t → steps_in (its_acts task stint) ≡ 0 → IsFresh task (once t p).turns × (its_acts task stint ≡ [])
 idle_stint image task t stint p before there going its tried fresh few = elim (cases_eq task t.running) [
   | inl same ↦
       let test : eqb stint.task task ≡ true = grind (arith, nat_tests, its, same) in
@@ -70,8 +69,7 @@ idle_stint image task t stint p before there going its tried fresh few = elim (c
 ]
 
 idle_stints : (image : List ℕ) (quantum task : ℕ) (t : Turns) (left : Mote) (motes : List Mote) (stints : List Stint) (to : Turns) (end : Mote) (last : List Mote)
-    → TakeTurns image quantum t left motes stints to end last
-    → IsFresh task t → steps_in (acts_of_task task stints) ≡ 0 → IsFresh task to × (acts_of_task task stints ≡ [])
+    → TakeTurns image quantum t left motes stints to end last → IsFresh task t → steps_in (acts_of_task task stints) ≡ 0 → IsFresh task to × (acts_of_task task stints ≡ [])
 idle_stints image quantum task t left motes [] to end last (same, left_is, motes_are) fresh few = (subst (IsFresh task) same fresh, refl)
 idle_stints image quantum task t left motes (stint ∷ stints) to end last (p, own, before, after, there, going, its, had, back, state, between, tried, lines, follow, rest) fresh few =
     let parts = steps_behind (its_acts task stint) (acts_of_task task stints) in

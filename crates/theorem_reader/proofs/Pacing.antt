@@ -67,9 +67,6 @@ acted_both (Some a) (Some b) (Some c) acts more first later = record {
   longest = later.longest ∙ ap₂ (λ n k. longest_in n k more) first.since first.longest ∙ sym (longest_behind a.since a.longest acts more);
 }
 
-acted_same : (a b a' b' : Option Task) (acts : List Act) → a ≡ a' → b ≡ b' → HaveActed a' b' acts → HaveActed a b acts
-acted_same a b a' b' acts was is acted = subst (λ o. HaveActed o b acts) (sym was) (subst (λ o. HaveActed a' o acts) (sym is) acted)
-
 -- Along plays. --------------------------------------------------------------------------------------------
 
 -- by the moves of a play
@@ -87,19 +84,16 @@ acted_tried n t new play i one =
       | inl same ↦
           let test : eqb r i ≡ true = grind (arith, nat_tests, same) in
           let next : slice_get one.mid.tasks r ≡ Some one.next = ap (λ l. slice_get l r) one.tried.tasks ∙ set_same t.tasks r one.task one.next one.here in
-          subst (λ b. HaveActed (slice_get t.tasks i) (slice_get one.mid.tasks i) (cond b acts [])) (sym test)
-          (acted_same (slice_get t.tasks i) (slice_get one.mid.tasks i) (Some one.task) (Some one.next) acts (ap (slice_get t.tasks) same ∙ one.here) (ap (slice_get one.mid.tasks) same ∙ next)
-          (record {
+          rw (test, ap (slice_get t.tasks) same ∙ one.here, ap (slice_get one.mid.tasks) same ∙ next) (record {
             natural = ap (λ (k : Numbers). k.natural) numbers ∙ natural_of x play.moves z walk counts;
             entries = ap (λ (k : Numbers). k.entries) numbers ∙ entries_of x play.moves z walk counts;
             since = ap (λ (k : Numbers). k.since) numbers ∙ since_of x play.moves z walk counts;
             longest = ap (λ (k : Numbers). k.longest) numbers ∙ longest_of x play.moves z walk counts;
-          }))
+          })
       | inr apart ↦
           let test : eqb r i ≡ false = grind (arith, nat_tests, apart) in
           let same : slice_get one.mid.tasks i ≡ slice_get t.tasks i = ap (λ l. slice_get l i) one.tried.tasks ∙ elsewhere_by t.tasks r i one.next apart in
-          subst (λ b. HaveActed (slice_get t.tasks i) (slice_get one.mid.tasks i) (cond b acts [])) (sym test)
-          (acted_same (slice_get t.tasks i) (slice_get one.mid.tasks i) (slice_get t.tasks i) (slice_get t.tasks i) [] refl same (acted_nothing (slice_get t.tasks i)))
+          rw (test, same) (acted_nothing (slice_get t.tasks i))
     ]
 
 -- where the mote is given to another
@@ -107,15 +101,10 @@ acted_given : (t : Tasks) (next : ℕ) (parked : Parked) (i : ℕ) → IsGiven t
 acted_given t next parked i given =
     let u = given_by t next (Some parked) in
     elim (cases_eq i next) [
-      | inl same ↦
-          acted_same (slice_get t.tasks i) (slice_get u.tasks i) (Some given.first) (Some (record given.first { parked = None })) [] (ap (slice_get t.tasks) same ∙ given.waits)
-          (ap (slice_get u.tasks) same ∙ first_of t next parked given) (acted_unparked given.first None)
+      | inl same ↦ rw (ap (slice_get t.tasks) same ∙ given.waits, ap (slice_get u.tasks) same ∙ first_of t next parked given) (acted_unparked given.first None)
       | inr apart ↦ elim (cases_eq i t.running) [
-        | inl same ↦
-            acted_same (slice_get t.tasks i) (slice_get u.tasks i) (Some given.last) (Some (record given.last { parked = Some _ })) [] (ap (slice_get t.tasks) same ∙ given.had)
-            (ap (slice_get u.tasks) same ∙ last_of t next parked given) (acted_unparked given.last (Some _))
-        | inr apart' ↦ acted_same (slice_get t.tasks i) (slice_get u.tasks i) (slice_get t.tasks i) (slice_get t.tasks i) [] refl (other_of t next i parked apart apart')
-            (acted_nothing (slice_get t.tasks i))
+        | inl same ↦ rw (ap (slice_get t.tasks) same ∙ given.had, ap (slice_get u.tasks) same ∙ last_of t next parked given) (acted_unparked given.last (Some _))
+        | inr apart' ↦ rw (other_of t next i parked apart apart') (acted_nothing (slice_get t.tasks i))
       ]
     ]
 
@@ -203,8 +192,7 @@ longest_by image first others quantum slots n plays new i bound (Some its) path 
 
 -- so between two services of one program there are no more steps than its task has counted
 pub few_from_boot : (image : List ℕ) (first : Schedule) (others : List Schedule) (quantum slots n : ℕ) (plays : List Play) (new : Tasks) (i bound : ℕ)
-    → (path : TaskPath n (booted image first others quantum slots) plays new)
-    → ((its : Task) → slice_get new.tasks i ≡ Some its → its.longest ≤ bound) → (front between back : List Act)
+    → (path : TaskPath n (booted image first others quantum slots) plays new) → ((its : Task) → slice_get new.tasks i ≡ Some its → its.longest ≤ bound) → (front between back : List Act)
     → acts_of_task i (stints_of n (booted image first others quantum slots) plays new path) ≡ front ++ (between ++ back) → services_in between ≡ 0 → steps_in between ≤ bound
 few_from_boot image first others quantum slots n plays new i bound path most front between back is none =
     omega (arith, longest_by image first others quantum slots n plays new i bound (slice_get new.tasks i) path refl most, ap (longest_in 0 0) is, no_longer 0 0 front between back none)

@@ -1,6 +1,6 @@
 -- What becomes of a page where one is rewritten, and where the stubs into a page that is recycled call the bridge again; and how often it
 -- is erased there, also where an operation is refused.
-use Rattle.std.proofs.Common.{◌≡◌, ◌≢◌, ℕ, zero, suc, ◌+◌, ◌-◌, ◌*◌, ◌<◌, ◌≤◌, ◌==◌, ◌⊎◌, Bool, true, false, if◌then◌else◌, List, [], length, Option, Some, None, refl, sym, ap, ◌∙◌, subst, arith}
+use Rattle.std.proofs.Common.{◌≡◌, ◌≢◌, ℕ, suc, ◌+◌, ◌-◌, ◌*◌, ◌<◌, ◌≤◌, ◌==◌, ◌⊎◌, Bool, true, false, if◌then◌else◌, List, [], length, Option, Some, None, refl, sym, ap, ◌∙◌, subst, arith}
 use Rattle.std.proofs.Common.{inl, inr}
 use Rattle.std.specs.Prelude.{◌||◌, not, slice_index, slice_set}
 use Rattle.std.proofs.lemmas.Bool.{cases_eq}
@@ -21,14 +21,14 @@ use Rattle.nat_page.proofs.UsedLaws.{free_unused, same_used}
 use Rattle.nat_page.proofs.WalkLaws.{own_run}
 use Rattle.branch_bridge.specs.declared.rewriting.ResolveStop.{ResolveStop}
 use Rattle.branch_bridge.specs.declared.rewriting.Torn.{Torn}
-use Rattle.branch_bridge.specs.Operating.{Performed, perform, rewriting, unless_stopped}
+use Rattle.branch_bridge.specs.Operating.{Performed, perform, rewriting}
 use Rattle.branch_bridge.specs.Tried.{torn_at}
 use Rattle.branch_bridge.specs.Unresolving.{has_stubs_into, unlinking, unresolved}
 use Rattle.branch_bridge.proofs.PartLaws.{stubs_used}
 use Rattle.branch_bridge.proofs.UnresolveLaws.{used_rewritten}
 use Rattle.theorem_reader.specs.Wear.{IsSamePage}
 use Rattle.theorem_reader.proofs.Erasing.{other_words}
-use Rattle.theorem_reader.proofs.OtherPages.{told_all}
+use Rattle.theorem_reader.proofs.OtherPages.{Told, unresolved_by, told_none, told_next, told_refused}
 use Rattle.theorem_reader.proofs.StubWords.{KeepsCalls, Same, calls_then, then_calls, calls_unlinked}
 use Rattle.theorem_reader.proofs.Rewriting.{Rewrites, Unerased, Unprogrammed, Whole, rewrites_by, beside, erased_more}
 
@@ -102,10 +102,8 @@ some_stubs false some is = is
 
 -- the page itself, which has some
 own_unlinked : (layout : Layout) (IsGone : ℕ → Type 0) (image : List ℕ) (old now new : Memory) (victim page : ℕ) (stop : Option ResolveStop) → IsRight layout → IsFaithful layout image now.words
-    → IsPool layout page
-    → IsGone victim → has_stubs_into image now.words victim page ≡ true → IsUntouched old now page
-    → Rewrites now new page (page_of (with_calls now.words (stubs_into image now.words victim page)) page) stop
-    → Unlinks IsGone old new page ⊎ IsTornPage old new (torn_at stop) page
+    → IsPool layout page → IsGone victim → has_stubs_into image now.words victim page ≡ true → IsUntouched old now page
+    → Rewrites now new page (page_of (with_calls now.words (stubs_into image now.words victim page)) page) stop → Unlinks IsGone old new page ⊎ IsTornPage old new (torn_at stop) page
 own_unlinked layout IsGone image old now new victim page stop right code pool gone some before (Unerased refusal stopped same erases) =
     inl (Stayed (untouched_on old now new page before (untouched_self now new page same erases)))
 own_unlinked layout IsGone image old now new victim page stop right code pool gone some before (Unprogrammed lacks is erases) =
@@ -161,26 +159,16 @@ ahead_next layout IsGone image old now victim page k right code less gone ahead 
                 )
             | inl here ↦ (
               λ later. absurd (omega (arith, later, here)),
-              subst (λ own. Unlinks IsGone old p.memory own ⊎ IsTornPage old p.memory (torn_at p.stop) own) (sym here)
-                  (own_unlinked layout IsGone image old now p.memory victim from p.stop right code pool gone some (subst (IsUntouched old now) here (ahead.0 (omega (arith, here)))) rewrites),
+              rw here (own_unlinked layout IsGone image old now p.memory victim from p.stop right code pool gone some (subst (IsUntouched old now) here (ahead.0 (omega (arith, here)))) rewrites),
             )
           ]
     ]) refl
 
-pub ahead_all : (layout : Layout) (IsGone : ℕ → Type 0) (old : Memory) (victim page k : ℕ) → IsRight layout → IsFaithful layout (image_of layout old.words) old.words → IsPool layout victim
-    → IsGone victim → k ≤ layout.pool_pages
-    → IsAhead layout IsGone old page k (unresolved (image_of layout old.words) victim layout.pool_first k old)
-ahead_all layout IsGone old victim page zero right code pool gone below = (λ later. untouched_self old old page refl refl, inl (Stayed (untouched_self old old page refl refl)))
-ahead_all layout IsGone old victim page (suc k) right code pool gone below =
-    let image = image_of layout old.words in
-    let p = unresolved image victim layout.pool_first k old in
-    let next : Memory → Performed = λ m. perform m (unlinking image m.words victim (layout.pool_first + k)) in
-    let before = ahead_all layout IsGone old victim page k right code pool gone (omega (arith, below)) in
-    let Next : Option ResolveStop → Type 0 = λ o. p.stop ≡ o → IsAhead layout IsGone old page (suc k) (unless_stopped o p.memory next) in
-    (elim p.stop as Next [
-      | None ↦ λ none.
-          let up = (told_all layout old victim victim k right code pool (omega (arith, below))).0 none in
-          ahead_next layout IsGone image old p.memory victim page k right up.code (omega (arith, below)) gone
-          (before.0, subst (λ o. Unlinks IsGone old p.memory page ⊎ IsTornPage old p.memory (torn_at o) page) none before.1)
-      | Some stop ↦ λ some. (λ later. before.0 (omega (arith, later)), subst (λ o. Unlinks IsGone old p.memory page ⊎ IsTornPage old p.memory (torn_at o) page) some before.1)
-    ]) refl
+pub ahead_all : (layout : Layout) (IsGone : ℕ → Type 0) (old : Memory) (victim page : ℕ) → IsRight layout → IsFaithful layout (image_of layout old.words) old.words → IsPool layout victim
+    → IsGone victim → IsAhead layout IsGone old page layout.pool_pages (unresolved (image_of layout old.words) victim layout.pool_first layout.pool_pages old)
+ahead_all layout IsGone old victim page right code pool gone =
+    (unresolved_by (λ k p. Told layout old victim victim k p × IsAhead layout IsGone old page k p) (image_of layout old.words) victim layout.pool_first layout.pool_pages old
+    (told_none layout old victim victim code, (λ later. untouched_self old old page refl refl, inl (Stayed (untouched_self old old page refl refl)))) (λ k less now both. (
+      told_next layout old now victim victim k right pool less both.0,
+      ahead_next layout IsGone (image_of layout old.words) old now victim page k right (both.0.0 refl).code less gone both.1,
+    )) (λ k now stop both. (told_refused layout old now victim victim k stop both.0, (λ later. both.1.0 (omega (arith, later)), both.1.1)))).1

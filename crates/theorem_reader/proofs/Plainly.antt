@@ -5,8 +5,8 @@ use Rattle.std.proofs.lemmas.List.{length_push, length-take}
 use Rattle.std.proofs.lemmas.List.FromFn.{length-range_with_len}
 use Rattle.hex.specs.Hex.{upper_digits}
 use Rattle.hex.proofs.HexLemmas.{length-encode_with}
-use Rattle.base_laws.proofs.ManyLaws.{length-two_each}
-use Rattle.line_reader.specs.Written.{fed}
+use Rattle.base.proofs.ManyLaws.{length-two_each}
+use Rattle.text_lines.specs.Written.{fed}
 use Rattle.hex_image.proofs.LawLemmas.{few_words}
 use Rattle.hex_image.specs.Written.{bytes_of_words, checksum_of, fields_of, record_bytes, record_line, record_content, data_line, record_count, written}
 use Rattle.hex_image.specs.HexText.{HexText}
@@ -15,7 +15,7 @@ use Rattle.cli_words.specs.declared.command.Command.TheVariants.{Run as RunComma
 use Rattle.cli_words.specs.Commands.{IsCommand}
 use Rattle.cli_words.proofs.WorkedWords.{without_options}
 use Rattle.std.specs.Prelude.{Result, Ok, Err, IfOk}
-use Rattle.no_memory.specs.declared.NoMemory.{NoMemory}
+use Rattle.base.specs.declared.no_memory.NoMemory.{NoMemory}
 use Rattle.theorem_reader.specs.Runs.{Asks, options_of, plainly}
 
 pub no_script : IsScript [] no_events

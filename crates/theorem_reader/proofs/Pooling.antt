@@ -2,7 +2,7 @@
 use Rattle.std.proofs.Common.{◌≡◌, ℕ, ◌+◌, ◌*◌, ◌/◌, ◌%◌, ◌<◌, ◌≤◌, ◌⊎◌, inl, inr, true, false, nat_le, if◌then◌else◌, List, length, slice_index, Option, Some, None, refl, sym, ap, ap₂, ◌∙◌, arith}
 use Rattle.std.proofs.Common.{subst}
 use Rattle.std.specs.Prelude.{IfSome}
-use Rattle.base_laws.proofs.ManyLaws.{get_or-many}
+use Rattle.base.proofs.ManyLaws.{get_or-many}
 use Rattle.flash_words.specs.declared.layout.Layout.{Layout}
 use Rattle.flash_words.specs.Layouts.{layout_of}
 use Rattle.flash_words.specs.Pages.{page_of, blank, page_words}
@@ -106,12 +106,11 @@ pub faithful_is : (image words : List ℕ) → length image ≤ 24576 → IsFait
 unfolding page_of
 faithful_is image words few faithful =
     let checked = code_checked (layout_of (length image)) image words (layout_right (length image) few) faithful in
-    let begins = pool_begins image in
     record {
       forms = checked.forms;
       links = λ page inside. checked.links page (in_pool image page inside);
       held = faithful.held;
-      erased = λ a low high. faithful.erased a low (omega (arith, begins.first, high));
+      erased = λ a low high. faithful.erased a low (omega (arith, (pool_begins image).first, high));
       kernel = λ a low high. faithful.kernel a low (omega (arith, high));
     }
 

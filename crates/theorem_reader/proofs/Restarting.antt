@@ -4,7 +4,7 @@ use Rattle.std.proofs.Common.{refl, sym, ap, ap₂, ◌∙◌, subst, arith, inl
 use Rattle.std.specs.Prelude.{IfSome, ◌==◌, take, drop}
 use Rattle.std.specs.List.{list_all}
 use Rattle.std.proofs.lemmas.Bool.{cases_lt}
-use Rattle.base_laws.proofs.ManyLaws.{length-many}
+use Rattle.base.proofs.ManyLaws.{length-many}
 use Rattle.flash_words.specs.Layouts.{layout_of}
 use Rattle.flash_words.specs.declared.layout.Layout.{Layout}
 use Rattle.flash_words.specs.Memory.{Memory}

@@ -6,12 +6,19 @@ use Rattle.std.proofs.lemmas.Bool.{cases_lt}
 use Rattle.std.proofs.Math.Nat.{min-le_left}
 use Rattle.flash_words.specs.Pages.{raised, set_page, blank}
 use Rattle.flash_words.specs.Memory.{Memory}
-use Rattle.flash_words.specs.Operations.{fails, left_by_refusal, erased_page, programmed_page}
+use Rattle.flash_words.specs.Operations.{fails, left_by_refusal, erased_page}
 use Rattle.flash_words.proofs.PageLaws.{set_page_twice}
 use Rattle.flash_words.proofs.ProgramLaws.{length-blank}
 use Rattle.branch_bridge.specs.declared.rewriting.ResolveStop.{ResolveStop}
-use Rattle.branch_bridge.specs.Operating.{Erase, Program, Performed, perform, rewriting, stop_at}
+use Rattle.branch_bridge.specs.Operating.{Operation, Erase, Program, operated, operated_page, Performed, perform, rewriting, stop_at}
 use Rattle.branch_bridge.specs.Tried.{torn_at}
+
+-- what is so where an operation is refused, and where it is done, is so behind it
+pub one_performed : (So : Performed → Type 0) (m : Memory) (operation : Operation) (more : List Operation)
+    → So (record { memory = left_by_refusal m (operated_page operation); stop = Some (stop_at m operation) }) → So (perform (operated m operation) more) → So (perform m (operation ∷ more))
+one_performed So m operation more refused done =
+    let Ways : Bool → Type 0 = λ b. So (if b then record { memory = left_by_refusal m (operated_page operation); stop = Some (stop_at m operation) } else perform (operated m operation) more) in
+    elim (fails m) as Ways [ true ↦ refused | false ↦ done ]
 
 -- Where an operation is refused nothing changes, or the page is blank and lacks these words; else it has them.
 pub data Rewrites (old new : Memory) (page : ℕ) (words : List ℕ) (stop : Option ResolveStop) : Type 0 where
@@ -23,20 +30,12 @@ pub data Rewrites (old new : Memory) (page : ℕ) (words : List ℕ) (stop : Opt
 pub rewrites_by : (old new : Memory) (page : ℕ) (words : List ℕ) (stop : Option ResolveStop) → 128 * page + 128 ≤ length old.words
     → perform old (rewriting page words) ≡ record { memory = new; stop = stop } → Rewrites old new page words stop
 rewrites_by old new page words stop inside performed =
-    let e = erased_page old page in
-    let refused : Performed = record { memory = left_by_refusal old page; stop = Some (stop_at old (Erase page)) } in
-    let torn : Performed = record { memory = left_by_refusal e page; stop = Some (stop_at e (Program true page words)) } in
-    let done : Performed = record { memory = programmed_page e page words; stop = None } in
-    let Q : Performed → Type 0 = λ r. r ≡ record { memory = new; stop = stop } → Rewrites old new page words stop in
-    let Inner : Bool → Type 0 = λ b. Q (if b then torn else done) in
-    let Outer : Bool → Type 0 = λ b. Q (if b then refused else (if fails e then torn else done)) in
-    (elim (fails old) as Outer [
-      | true ↦ λ is. Unerased (stop_at old (Erase page)) (sym (ap (λ (r : Performed). r.stop) is)) (sym (ap (λ (r : Performed). r.memory.words) is)) (sym (ap (λ (r : Performed). r.memory.erases) is))
-      | false ↦ elim (fails e) as Inner [
-        | true ↦ λ is. Unprogrammed (sym (ap (λ (r : Performed). torn_at r.stop) is)) (sym (ap (λ (r : Performed). r.memory.words) is)) (sym (ap (λ (r : Performed). r.memory.erases) is))
-        | false ↦ λ is. Whole (sym (ap (λ (r : Performed). r.memory.words) is) ∙ set_page_twice old.words blank words page length-blank inside) (sym (ap (λ (r : Performed). r.memory.erases) is))
-      ]
-    ]) performed
+    let So : Performed → Type 0 = λ r. r ≡ record { memory = new; stop = stop } → Rewrites old new page words stop in
+    one_performed So old (Erase page) (Program true page words ∷ [])
+    (λ is. Unerased (stop_at old (Erase page)) (sym (ap (λ (r : Performed). r.stop) is)) (sym (ap (λ (r : Performed). r.memory.words) is)) (sym (ap (λ (r : Performed). r.memory.erases) is)))
+    (one_performed So (erased_page old page) (Program true page words) []
+    (λ is. Unprogrammed (sym (ap (λ (r : Performed). torn_at r.stop) is)) (sym (ap (λ (r : Performed). r.memory.words) is)) (sym (ap (λ (r : Performed). r.memory.erases) is)))
+    (λ is. Whole (sym (ap (λ (r : Performed). r.memory.words) is) ∙ set_page_twice old.words blank words page length-blank inside) (sym (ap (λ (r : Performed). r.memory.erases) is)))) performed
 
 -- .. where none was refused
 pub rewriting_erases : (old new : Memory) (page : ℕ) (words : List ℕ) → 128 * page + 128 ≤ length old.words → perform old (rewriting page words) ≡ record { memory = new; stop = None }
@@ -49,13 +48,7 @@ rewriting_erases old new page words inside performed = elim (rewrites_by old new
 
 -- a word of another page
 pub beside : (page own k : ℕ) → k < 128 → page ≢ own → (128 * page + k < 128 * own) ⊎ (128 * own + 128 ≤ 128 * page + k)
-beside page own k below apart = elim (cases_lt page own) [
-  | inl less ↦ inl (omega (arith, less, below))
-  | inr more ↦ inr (omega (arith, more, apart))
-]
-
-raised_most : (n : ℕ) → raised n ≤ n + 1
-raised_most n = min-le_left (n + 1) (2 ^ 32 - 1)
+beside page own k below apart = elim (cases_lt page own) [ inl less ↦ inl (omega (arith, less, below)) | inr more ↦ inr (omega (arith, more, apart)) ]
 
 bumped : (xs : List ℕ) (i v : ℕ) → v ≤ get_or xs i 0 + 1 → get_or (set xs i v) i 0 ≤ get_or xs i 0 + 1
 bumped [] i v most = omega arith
@@ -65,4 +58,4 @@ bumped (x ∷ xs) (suc i) v most = bumped xs i v most
 -- so it is erased once more at most
 pub erased_more : (old new : Memory) (page : ℕ) → new.erases ≡ slice_set old.erases page (raised (slice_index old.erases page)) → slice_index new.erases page ≤ slice_index old.erases page + 1
 erased_more old new page erases =
-    omega (arith, ap (λ es. slice_index es page) erases, bumped old.erases page (raised (slice_index old.erases page)) (raised_most (slice_index old.erases page)))
+    omega (arith, ap (λ es. slice_index es page) erases, bumped old.erases page (raised (slice_index old.erases page)) (min-le_left (slice_index old.erases page + 1) (2 ^ 32 - 1)))

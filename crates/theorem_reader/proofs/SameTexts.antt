@@ -53,13 +53,11 @@ run_same front r stop how quantum m is =
     ∙ ap (λ text. front ++ text) (append_assoc (flat_map device_line r.lines) (stop_line how r.state.now.steps (r.state.now.crossings / quantum)) (count_line m))
     ∙ sym (append_assoc front (flat_map device_line r.lines) (last_lines r how quantum m))
 
-pub ended_same : (front : List ℕ) (r : Run) (quantum : ℕ) (m : Machine)
-    → front ++ (lines_text r.lines ++ stop_text r.end r.state.now.steps (r.state.now.crossings / quantum) ++ count_line_of m)
+pub ended_same : (front : List ℕ) (r : Run) (quantum : ℕ) (m : Machine) → front ++ (lines_text r.lines ++ stop_text r.end r.state.now.steps (r.state.now.crossings / quantum) ++ count_line_of m)
     ≡ (front ++ flat_map device_line r.lines) ++ last_lines r (end_words r.end) quantum m
 ended_same front r quantum m = run_same front r _ (end_words r.end) quantum m (stop_same r.end r.state.now.steps (r.state.now.crossings / quantum))
 
-pub failed_same : (r : Run) (op quantum : ℕ) (m : Machine) → m.steps ≡ r.state.now.steps
-    → lines_text r.lines ++ end_line (ends.Flash op) m.steps (r.state.now.crossings / quantum) ++ count_line_of m
+pub failed_same : (r : Run) (op quantum : ℕ) (m : Machine) → m.steps ≡ r.state.now.steps → lines_text r.lines ++ end_line (ends.Flash op) m.steps (r.state.now.crossings / quantum) ++ count_line_of m
     ≡ flat_map device_line r.lines ++ last_lines r (codes "flash fault " ++ decimal op) quantum m
 failed_same r op quantum m steps = run_same [] r _ (codes "flash fault " ++ decimal op) quantum m
     (ap (λ n. end_line (ends.Flash op) n (r.state.now.crossings / quantum)) steps ∙ flash_same op r.state.now.steps (r.state.now.crossings / quantum))

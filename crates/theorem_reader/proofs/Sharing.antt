@@ -324,4 +324,5 @@ tasks_told words exit status faults taken call text tells asked asks =
       asks.command,
       (text, tells, inr (asks.front.short, Good (asked.image, asks.front.position) asks.front.hex (Good asked.scripts asks.scripts (Placed asks.placed refl)))),
     ))
-    (λ sink told none alone. NoMemory told none alone) (λ done. are_run asked words exit status faults taken call done.tasks (each_task asked.count _ asked.scripts asks.scripts) some done.none done.kept done.runs)
+    (λ sink told none alone. NoMemory told none alone) (λ done. are_run asked words exit status faults taken call done.tasks
+    (each_task asked.count _ asked.scripts asks.scripts) some done.none done.kept done.runs)

@@ -1,7 +1,7 @@
 -- The acts of a run, step by step, of its moves.
 use Rattle.std.proofs.Common.{◌≡◌, ℕ, zero, suc, ◌+◌, ◌≤◌, Bool, true, false, ◌&&◌, List, [], ◌∷◌, ◌++◌, map, length, refl, sym, ap, ◌∙◌, subst, arith, inl, inr, ◌-◌, ◌%◌, ◌<◌, ◌⊎◌, ap₂}
 use Rattle.std.specs.Prelude.{Option, Some, None, is_some, not, ◌||◌}
-use Rattle.std.proofs.lemmas.Bool.{and_parts}
+use Rattle.std.proofs.lemmas.Bool.{and_parts, and_from}
 use Rattle.std.proofs.lemmas.Bool.Decides.{nat_tests}
 use Rattle.sram_layout.specs.Bytes.{byte_at}
 use Rattle.flash_words.specs.declared.layout.Layout.{Layout}
@@ -26,7 +26,8 @@ use Rattle.step_laws.specs.Walks.{Walk, MakesArrive, MakesTake}
 use Rattle.kernel_entry.specs.declared.kernel.Owed.{Owed}
 use Rattle.mote_core.specs.declared.mote.Mote.{Mote}
 use Rattle.program_steps.specs.Machines.{Machine, awaited, state_of, awaits, flat_of}
-use Rattle.program_steps.specs.Ready.{IsGoing, IsQuiet, IsRightPart}
+use Rattle.program_steps.specs.Ready.{IsGoing, IsRightPart}
+use Rattle.program_steps.proofs.Awaiting.{free_of}
 use Rattle.program_steps.proofs.Entered.{awaited_due, untaken_by}
 use Rattle.program_steps.specs.Stepping.{Goes, links_in, ends_in_arrive}
 use Rattle.program_steps.specs.Stepping as stepping
@@ -82,28 +83,13 @@ own_acts x z line rest few serves walk =
     let later = counted walk.0 z rest walk.2 in
     record { alone = omega (arith, later.alone); some = omega arith; steps = omega (arith, later.steps, few); services = omega (arith, later.services, serves); ends = later.ends }
 
-both : (b c : Bool) → b ≡ true → c ≡ true → (b && c) ≡ true
-both true c first second = second
-both false c first second = absurd (let e : ◌≡◌ {A = Bool} false true = first in cc)
-
 -- an interrupt is one that the original program takes
 take_due : (y : Machine) (z : State) (stops : Bool) → MakesTake (state_of y) stops z → is_taken (flat_of y) ≡ true
 take_due y z stops makes =
     let now = and_parts _ _ makes.taken_now in
-    both _ _ (sym (awaited_due y.owed y.due makes.owed makes.owes) ∙ now.0) (and_parts _ _ now.1).1
+    and_from _ _ (sym (awaited_due y.owed y.due makes.owed makes.owes) ∙ now.0) (and_parts _ _ now.1).1
 
--- where none is due, it takes none
-undue_takes : (s : Moment) → s.due ≡ false → is_taken s ≡ false
-undue_takes s undue = ap (λ b. b && (has_bit s.now.cpu.sreg interrupts && is_enabled s.now.devices)) undue
-
-none_awaited : (owed : Option Owed) (due : Bool) → awaited owed due ≡ None → owed ≡ None
-none_awaited None due none = refl
-none_awaited (Some owed) due none = absurd (cc)
-
-none_here : (y : Machine) → IsQuiet y → (state_of y).owed ≡ None → is_taken (flat_of y) ≡ false
-none_here y quiet free = undue_takes (flat_of y) (quiet (none_awaited y.owed y.due free))
-
--- nor before an arrival that goes on
+-- none is taken before an arrival that goes on
 is_own_part : (part : Part) (words t : ℕ) → IsRightPart part words → admits part t ≡ true → t < words → (shut : Bool) → part.shut ≡ shut → is_own part t ≡ true
 is_own_part part words t right admitted below true is = ap (λ b. not b || is_own part t) (sym is) ∙ admitted
 is_own_part part words t right admitted below false is =
@@ -141,20 +127,23 @@ place_by image quantum y t due holds ready free (Reaches.Placed undue none enter
     place_is image words t y.kernel.mote.cpu.pc (faithful_mapped l image words (layout_right (length image) few) code) (subst (λ k. IsEntry k words t y.kernel.mote.cpu.pc) holds.laid enters.0)
 place_by image quantum y t due holds ready free (Reaches.Owing stub alone owes leads) = absurd (let e : Some (record { target = t; stub = stub; due = due }) ≡ None = sym owes ∙ free in cc)
 
+-- The machine stands where n steps lead, over the image, and between two steps.
+abbrev pub HasCome : (image : List ℕ) (quantum : ℕ) (at : ℕ → Moment) (n : ℕ) (y : Machine) → Type 0
+HasCome image quantum at n y = Holds image quantum (state_of y) × StandsAfter at n y × Asked (state_of y)
+
 -- where it stands in the original program
 at_is : (at : ℕ → Moment) (n : ℕ) (y : Machine) → StandsAfter at n y → y.at ≡ (at n).now.cpu.pc
 at_is at n y stands = ap (λ (s : Moment). s.now.cpu.pc) stands.stands
 
-own_here : (image : List ℕ) (quantum : ℕ) (at : ℕ → Moment) (n : ℕ) (y : Machine) (z : State) (own : List Move) → Holds image quantum (state_of y) → StandsAfter at n y
-    → Asked (state_of y) → stepping.AreOwn own → (walk : Walk (state_of y) own z) → AreOfStep image (at n) (mote_of (state_of y)) (acts_of (state_of y) own z walk)
-own_here image quantum at n y z own holds stands asked (stepping.Taking stops is) =
+own_here : (image : List ℕ) (quantum : ℕ) (at : ℕ → Moment) (n : ℕ) (y : Machine) (z : State) (own : List Move) → HasCome image quantum at n y → stepping.AreOwn own
+    → (walk : Walk (state_of y) own z) → AreOfStep image (at n) (mote_of (state_of y)) (acts_of (state_of y) own z walk)
+own_here image quantum at n y z own (holds, stands, asked) (stepping.Taking stops is) =
     acts_as (state_of y) z (AreOfStep image (at n) (mote_of (state_of y))) own (Take stops ∷ []) is
     (λ walk. Interrupted (asked walk.1.owed walk.1.owes) stops (mote_of walk.0) refl (sym (ap is_taken stands.stands) ∙ take_due y walk.0 stops walk.1))
-own_here image quantum at n y z own holds stands asked (stepping.Making line rest is few serves) =
+own_here image quantum at n y z own (holds, stands, asked) (stepping.Making line rest is few serves) =
     acts_as (state_of y) z (AreOfStep image (at n) (mote_of (state_of y))) own (Begin line ∷ map Within rest) is
-    (λ walk. There (sym (ap is_taken stands.stands) ∙ none_here y stands.quiet walk.1.free)
-    (subst (λ t. IsPlaceOf image y.kernel.mote.flash.words t y.kernel.mote.cpu.pc) (at_is at n y stands)
-    (place_by image quantum y y.at (awaits y) holds stands.ready walk.1.free stands.ready.stands)) (own_acts (state_of y) z line rest few serves walk))
+    (λ walk. There (sym (ap is_taken stands.stands) ∙ ap (λ b. b && (has_bit (flat_of y).now.cpu.sreg interrupts && is_enabled (flat_of y).now.devices)) (stands.quiet (free_of y walk.1.free)))
+    (rw (at_is at n y stands) at (place_by image quantum y y.at (awaits y) holds stands.ready walk.1.free stands.ready.stands)) (own_acts (state_of y) z line rest few serves walk))
 
 -- the program goes on where they begin
 own_goes : (y z : State) (own : List Move) → stepping.AreOwn own → Walk y own z → y.end ≡ None
@@ -165,50 +154,41 @@ own_behind : (x y z : State) (target ops : ℕ) (made : Bool) (own : List Move) 
 own_behind x y z target ops made own arrives (stepping.Taking stops is) = acts_as y z AreOwn own (Take stops ∷ []) is (λ walk. absurd (none_taken x y walk.0 target ops made stops arrives walk.1))
 own_behind x y z target ops made own arrives (stepping.Making line rest is few serves) = acts_as y z AreOwn own (Begin line ∷ map Within rest) is (own_acts y z line rest few serves)
 
-pub step_acts : (image : List ℕ) (quantum : ℕ) (at : ℕ → Moment) (n : ℕ) (y : Machine) (z : State) (arrival own : List Move) → Holds image quantum (state_of y) → StandsAfter at n y
-    → Asked (state_of y)
-    → stepping.IsArrival y.at arrival → stepping.AreOwn own → (walk : Walk (state_of y) (arrival ++ own) z)
-    → AreOfStep image (at n) (mote_of (state_of y)) (acts_of (state_of y) (arrival ++ own) z walk)
-step_acts image quantum at n y z arrival own holds stands asked (stepping.NoArrival none) makes =
-    acts_as (state_of y) z (AreOfStep image (at n) (mote_of (state_of y))) (arrival ++ own) own (ap (λ ms. ms ++ own) none) (own_here image quantum at n y z own holds stands asked makes)
-step_acts image quantum at n y z arrival own holds stands asked (stepping.OneArrival made ops one) makes =
+pub step_acts : (image : List ℕ) (quantum : ℕ) (at : ℕ → Moment) (n : ℕ) (y : Machine) (z : State) (arrival own : List Move) → HasCome image quantum at n y → stepping.IsArrival y.at arrival
+    → stepping.AreOwn own → (walk : Walk (state_of y) (arrival ++ own) z) → AreOfStep image (at n) (mote_of (state_of y)) (acts_of (state_of y) (arrival ++ own) z walk)
+step_acts image quantum at n y z arrival own (holds, stands, asked) (stepping.NoArrival none) makes =
+    acts_as (state_of y) z (AreOfStep image (at n) (mote_of (state_of y))) (arrival ++ own) own (ap (λ ms. ms ++ own) none) (own_here image quantum at n y z own (holds, stands, asked) makes)
+step_acts image quantum at n y z arrival own (holds, stands, asked) (stepping.OneArrival made ops one) makes =
     acts_as (state_of y) z (AreOfStep image (at n) (mote_of (state_of y))) (arrival ++ own) (Arrive y.at made ops ∷ own) (ap (λ ms. ms ++ own) one)
     (λ walk. Arriving (asked walk.1.owed walk.1.owes) (sym (ap is_taken stands.stands) ∙ none_before image quantum y walk.0 ops made holds stands.ready walk.1 (own_goes walk.0 z own makes walk.2))
     (one_if made) ops (mote_of walk.0) (acts_of walk.0 own z walk.2)
     (ap₂ (λ refused t. Arrival refused t (one_if made) ops (mote_of (state_of y)) (mote_of walk.0) ∷ acts_of walk.0 own z walk.2) (ap is_some (own_goes walk.0 z own makes walk.2))
-    (at_is at n y stands))
-    (own_behind (state_of y) walk.0 z y.at ops made own walk.1 makes walk.2))
+    (at_is at n y stands)) (own_behind (state_of y) walk.0 z y.at ops made own walk.1 makes walk.2))
 
 -- a next step can begin
-begins_by : (image : List ℕ) (quantum : ℕ) (at : ℕ → Moment) (n : ℕ) (y : Machine) (due : Bool) → Holds image quantum (state_of y) → StandsAfter at n y → Asked (state_of y)
-    → Reaches (links_in y) y.at due (state_of y)
+can_begin : (image : List ℕ) (quantum : ℕ) (at : ℕ → Moment) (n : ℕ) (y : Machine) → HasCome image quantum at n y
     → (is_with_kernel (mote_of (state_of y)) ≡ true) ⊎ IsPlaceOf image y.kernel.mote.flash.words (at n).now.cpu.pc y.kernel.mote.cpu.pc
-begins_by image quantum at n y due holds stands asked (Reaches.Placed undue none enters) =
-    inr (subst (λ t. IsPlaceOf image y.kernel.mote.flash.words t y.kernel.mote.cpu.pc) (at_is at n y stands)
-    (place_by image quantum y y.at due holds stands.ready none (Reaches.Placed undue none enters)))
-begins_by image quantum at n y due holds stands asked (Reaches.Owing stub alone owes leads) = inl (asked (record { target = y.at; stub = stub; due = due }) owes)
-
-can_begin : (image : List ℕ) (quantum : ℕ) (at : ℕ → Moment) (n : ℕ) (y : Machine) → Holds image quantum (state_of y) → StandsAfter at n y → Asked (state_of y)
-    → (is_with_kernel (mote_of (state_of y)) ≡ true) ⊎ IsPlaceOf image y.kernel.mote.flash.words (at n).now.cpu.pc y.kernel.mote.cpu.pc
-can_begin image quantum at n y holds stands asked = begins_by image quantum at n y (awaits y) holds stands asked stands.ready.stands
+can_begin image quantum at n y (holds, stands, asked) = elim stands.ready.stands [
+  | Reaches.Placed undue none enters ↦ inr (rw (at_is at n y stands) at (place_by image quantum y y.at (awaits y) holds stands.ready none (Reaches.Placed undue none enters)))
+  | Reaches.Owing stub alone owes leads ↦ inl (asked (record { target = y.at; stub = stub; due = awaits y }) owes)
+]
 
 some_by : (o : Option End) → (o ≡ None → ⊥) → is_some o ≡ true
 some_by None some = absurd (some refl)
 some_by (Some end) some = refl
 
 -- .. and of one that isn't made
-unmade_alone : (image : List ℕ) (quantum : ℕ) (at : ℕ → Moment) (n : ℕ) (y : Machine) (z : State) (arrival own : List Move) → Holds image quantum (state_of y) → StandsAfter at n y → Asked (state_of y)
+unmade_alone : (image : List ℕ) (quantum : ℕ) (at : ℕ → Moment) (n : ℕ) (y : Machine) (z : State) (arrival own : List Move) → HasCome image quantum at n y
     → own ≡ [] → stepping.IsArrival y.at arrival → (z.end ≡ None → ends_in_arrive (arrival ++ own) ≡ false) → (walk : Walk (state_of y) (arrival ++ own) z)
     → AreUnmade image (at n) (mote_of (state_of y)) (acts_of (state_of y) (arrival ++ own) z walk) z.end
-unmade_alone image quantum at n y z arrival own holds stands asked nothing (stepping.NoArrival none) final =
+unmade_alone image quantum at n y z arrival own (holds, stands, asked) nothing (stepping.NoArrival none) final =
     let same : arrival ++ own ≡ [] = ap (λ ms. ms ++ own) none ∙ nothing in
     acts_as (state_of y) z (λ acts. AreUnmade image (at n) (mote_of (state_of y)) acts z.end) (arrival ++ own) [] same
-    (λ walk. Nothing refl (ap (λ (s : State). s.end) (sym walk) ∙ stands.ready.going) (can_begin image quantum at n y holds stands asked))
-unmade_alone image quantum at n y z arrival own holds stands asked nothing (stepping.OneArrival made ops one) final =
+    (λ walk. Nothing refl (ap (λ (s : State). s.end) (sym walk) ∙ stands.ready.going) (can_begin image quantum at n y (holds, stands, asked)))
+unmade_alone image quantum at n y z arrival own (holds, stands, asked) nothing (stepping.OneArrival made ops one) final =
     let same : arrival ++ own ≡ Arrive y.at made ops ∷ [] = ap (λ ms. ms ++ own) one ∙ ap (λ ms. Arrive y.at made ops ∷ ms) nothing in
     let over : is_some z.end ≡ true = some_by z.end (λ going. absurd (let both : ◌≡◌ {A = Bool} true false = sym (ap ends_in_arrive same) ∙ final going in cc)) in
-    acts_as (state_of y) z (λ acts. AreUnmade image (at n) (mote_of (state_of y)) acts z.end) (arrival ++ own) (Arrive y.at made ops ∷ []) same
-    (λ walk.
+    acts_as (state_of y) z (λ acts. AreUnmade image (at n) (mote_of (state_of y)) acts z.end) (arrival ++ own) (Arrive y.at made ops ∷ []) same (λ walk.
     let there : is_some walk.0.end ≡ true = ap (λ (s : State). is_some s.end) walk.2 ∙ over in
     Refused (asked walk.1.owed walk.1.owes) (one_if made) ops (mote_of walk.0)
     (ap₂ (λ refused t. Arrival refused t (one_if made) ops (mote_of (state_of y)) (mote_of walk.0) ∷ []) there (at_is at n y stands))
@@ -216,28 +196,25 @@ unmade_alone image quantum at n y z arrival own holds stands asked nothing (step
     (at_is at n y stands)))
 
 -- a step that isn't made, behind n that were
-unmade_acts : (image : List ℕ) (quantum : ℕ) (at : ℕ → Moment) (n : ℕ) (start y z : Machine) (before rest : List Move) (lines : List Line) → Holds image quantum (state_of y)
-    → StepsTo at start n before y → StandsAfter at n y
-    → Asked (state_of y) → stepping.AreOfStep y.at rest → (z.end ≡ None → ends_in_arrive rest ≡ false) → z.steps ≡ start.steps + n → (goes : Goes y z rest lines)
+unmade_acts : (image : List ℕ) (quantum : ℕ) (at : ℕ → Moment) (n : ℕ) (start y z : Machine) (before rest : List Move) (lines : List Line) → HasCome image quantum at n y
+    → StepsTo at start n before y → stepping.AreOfStep y.at rest → (z.end ≡ None → ends_in_arrive rest ≡ false) → z.steps ≡ start.steps + n → (goes : Goes y z rest lines)
     → AreUnmade image (at n) (mote_of (state_of y)) (acts_of (state_of y) rest (state_of z) goes.walk) z.end
-unmade_acts image quantum at n start y z before rest lines holds steps stands asked of_step final done goes =
+unmade_acts image quantum at n start y z before rest lines (holds, stands, asked) steps of_step final done goes =
     let all = of_step.arrival ++ of_step.own in
     let goes_all = subst (λ ms. Goes y z ms lines) of_step.parts goes in
     acts_as (state_of y) (state_of z) (λ acts. AreUnmade image (at n) (mote_of (state_of y)) acts z.end) rest all of_step.parts (λ walk. elim of_step.makes [
-      | inl nothing ↦ unmade_alone image quantum at n y (state_of z) of_step.arrival of_step.own holds stands asked nothing of_step.arrives
+      | inl nothing ↦ unmade_alone image quantum at n y (state_of z) of_step.arrival of_step.own (holds, stands, asked) nothing of_step.arrives
           (λ going. sym (ap ends_in_arrive of_step.parts) ∙ final going) walk
       | inr makes ↦ (
           let over = unmade_stops at start y z n before of_step.arrival of_step.own lines steps stands.ready.going of_step.arrives makes goes_all done in
-          Stopped (step_acts image quantum at n y (state_of z) of_step.arrival of_step.own holds stands asked of_step.arrives makes walk)
+          Stopped (step_acts image quantum at n y (state_of z) of_step.arrival of_step.own (holds, stands, asked) of_step.arrives makes walk)
           (stop_last (state_of y) (of_step.arrival ++ of_step.own) (state_of z) walk stands.ready.going over) over.0 over.1)
     ]) goes.walk
 
 -- where a row of moves doesn't end in an arrival, its last ones don't
 not_last : (move other : Move) (moves : List Move) → ends_in_arrive (move ∷ other ∷ moves) ≡ ends_in_arrive (other ∷ moves)
 not_last (Begin line) other moves = refl
-not_last (Within inner) other moves = refl
-not_last (Arrive t made ops) other moves = refl
-not_last (Take stops) other moves = refl
+not_last _ other moves = refl
 
 pub last_alone : (front moves : List Move) → ends_in_arrive (front ++ moves) ≡ false → ends_in_arrive moves ≡ false
 last_alone [] moves none = none
@@ -256,10 +233,9 @@ some_awaited : (owed : Option Owed) (due : Bool) → (owed ≡ None → due ≡ 
 some_awaited None due quiet is = absurd (let e : ◌≡◌ {A = Bool} true false = sym is ∙ quiet refl in cc)
 some_awaited (Some owed) due quiet is = (record { target = owed.target; stub = owed.stub; due = due }, refl)
 
-pub between_held : (image : List ℕ) (quantum : ℕ) (at : ℕ → Moment) (n : ℕ) (y : Machine) → Holds image quantum (state_of y) → StandsAfter at n y → Asked (state_of y)
-    → IsBetween quantum (at n) (mote_of (state_of y))
+pub between_held : (image : List ℕ) (quantum : ℕ) (at : ℕ → Moment) (n : ℕ) (y : Machine) → HasCome image quantum at n y → IsBetween quantum (at n) (mote_of (state_of y))
 unfolding byte_at
-between_held image quantum at n y holds stands asked = record {
+between_held image quantum at n y (holds, stands, asked) = record {
   stack = stands.ready.top;
   count = stands.ready.exact ∙ ap (λ q. q - y.crossings % q) holds.counts ∙ ap (λ (s : Moment). quantum - s.now.crossings % quantum) stands.stands;
   due = λ is. let owes = some_awaited y.owed y.due stands.quiet (ap (λ (s : Moment). s.due) stands.stands ∙ is) in asked owes.0 owes.1;
@@ -288,8 +264,8 @@ led image quantum at start (suc n) moves z holds first going (y, before, arrival
         joined.1,
         earlier.go,
         state_held at n y stands,
-        between_held image quantum at n y earlier.holds stands asked,
-        step_acts image quantum at n y (state_of z) arrival own earlier.holds stands asked arrives makes goes.walk,
+        between_held image quantum at n y (earlier.holds, stands, asked),
+        step_acts image quantum at n y (state_of z) arrival own (earlier.holds, stands, asked) arrives makes goes.walk,
         no_stop (state_of y) (arrival ++ own) (state_of z) goes.walk going,
         next.follow,
       );
@@ -302,8 +278,7 @@ pub record Paced (image : List ℕ) (quantum : ℕ) (at : ℕ → Moment) (start
   pub by_step : IsByStep image quantum at (mote_of (state_of start)) (acts_of (state_of start) moves (state_of z) walk) n (mote_of (state_of z)) z.end
 
 pub paced : (image : List ℕ) (quantum : ℕ) (at : ℕ → Moment) (start : Machine) (n : ℕ) (moves : List Move) (z : Machine) → Holds image quantum (state_of start) → Asked (state_of start)
-    → running.IsByStep at start z n moves
-    → (z.end ≡ None → ends_in_arrive moves ≡ false) → z.steps ≡ start.steps + n → Paced image quantum at start n moves z
+    → running.IsByStep at start z n moves → (z.end ≡ None → ends_in_arrive moves ≡ false) → z.steps ≡ start.steps + n → Paced image quantum at start n moves z
 paced image quantum at start n moves z holds first is final done =
     let earlier = led image quantum at start n is.before is.last holds first is.stands.ready.going is.steps in
     let asked = kernel_has (state_of start) is.before (state_of is.last) earlier.walk first is.stands.ready.going in
@@ -317,8 +292,8 @@ paced image quantum at start n moves z holds first is final done =
         all = joined.1;
         steps = earlier.go;
         state = state_held at n is.last is.stands;
-        between = between_held image quantum at n is.last earlier.holds is.stands asked;
-        unmade = unmade_acts image quantum at n start is.last z is.before is.behind is.lines earlier.holds is.steps is.stands asked is.of_step
+        between = between_held image quantum at n is.last (earlier.holds, is.stands, asked);
+        unmade = unmade_acts image quantum at n start is.last z is.before is.behind is.lines (earlier.holds, is.stands, asked) is.steps is.of_step
             (λ going. last_alone is.before is.behind (sym (ap ends_in_arrive is.all) ∙ final going)) done is.goes;
         follow = (follow image quantum (state_of is.last) is.behind (state_of z) is.goes.walk earlier.holds).follow;
       };

@@ -3,6 +3,7 @@ use Rattle.std.proofs.Common.{◌≡◌, ℕ, zero, suc, ◌+◌, ◌≤◌, Boo
 use Rattle.std.specs.Prelude.{nat_le, ◌==◌, ◌||◌}
 use Rattle.mote_core.specs.declared.mote.Mote.{Mote}
 use Rattle.step_laws.proofs.ServiceMoves.{kernel_served}
+use Rattle.std.proofs.lemmas.Bool.{or_right, false_from_ne_true}
 use Rattle.std.proofs.lemmas.Bool.Decides.{nat_tests}
 use Rattle.mote_devices.specs.declared.line.Line.{Line}
 use Rattle.kernel_entry.specs.declared.kernel.Kernel.{Kernel}
@@ -43,76 +44,49 @@ pub inner_free : (x : State) (inner : Inner) (y : State) → MakesOf false x inn
 inner_free x (Plain line) y makes = (makes.free, makes.going)
 inner_free x (Serve line stops) y makes = (makes.free, makes.going)
 
-or_true : (b : Bool) → (b || true) ≡ true
-or_true true = refl
-or_true false = refl
-
 -- A service, an interrupt and an arrival. -----------------------------------------------------------------
 
-after_serving : (due : Bool) (p : Served × Kernel) → stops_served p.0 ≡ true → IsStop (after_service due p).end
-after_serving due (answers.Resume line, k) is = absurd (cc)
-after_serving due (answers.Goto target stub, k) is = absurd (cc)
-after_serving due (answers.Woke target, k) is = absurd (cc)
-after_serving due (answers.Stopped stop, k) is = (stop, refl)
+-- the program stops by itself just where this is so
+pub record EndsSo (stops : Bool) (end : Option End) : Type 0 where
+  pub over : stops ≡ true → IsStop end
+  pub going : stops ≡ false → end ≡ None
 
-behind_serving : (due : Bool) (p : Served × Kernel) → stops_served p.0 ≡ false → (after_service due p).end ≡ None
-behind_serving due (answers.Resume line, k) is = refl
-behind_serving due (answers.Goto target stub, k) is = refl
-behind_serving due (answers.Woke target, k) is = refl
-behind_serving due (answers.Stopped stop, k) is = absurd (cc)
+stops_so : (stops : Bool) (end : Option End) → EndsSo stops end → IsStop end → stops ≡ true
+stops_so true end ends over = refl
+stops_so false end ends over = absurd (none_on end over (ends.going refl))
 
-pub serve_stops : (x y : State) (line : Option Line) (stops : Bool) → MakesServe x line stops y → stops ≡ true → IsStop y.end
-serve_stops x y line stops makes over = subst (λ (s : State). IsStop s.end) (sym makes.result) (after_serving (is_due x.kernel) (served x.kernel) (makes.halts ∙ over))
+serving_ends : (due : Bool) (p : Served × Kernel) → EndsSo (stops_served p.0) (after_service due p).end
+serving_ends due (answers.Stopped stop, k) = record { over = λ is. (stop, refl); going = λ is. absurd (cc) }
+serving_ends due (_, k) = record { over = λ is. absurd (cc); going = λ is. refl }
 
-stops_serve : (x y : State) (line : Option Line) (stops : Bool) → MakesServe x line stops y → IsStop y.end → stops ≡ true
-stops_serve x y line true makes over = refl
-stops_serve x y line false makes over = absurd (none_on y.end over (ap (λ (s : State). s.end) makes.result ∙ behind_serving (is_due x.kernel) (served x.kernel) makes.halts))
+pub serve_ends : (x y : State) (line : Option Line) (stops : Bool) → MakesServe x line stops y → EndsSo stops y.end
+serve_ends x y line stops makes = rw makes.result (rw makes.halts at (serving_ends (is_due x.kernel) (served x.kernel)))
 
-after_interrupt : (x : State) (p : Taken × Kernel) → stops_taking p.0 ≡ true → IsStop (after_taking x p).end
-after_interrupt x (taken.Nothing, k) is = absurd (cc)
-after_interrupt x (taken.Vector v, k) is = absurd (cc)
-after_interrupt x (taken.Stopped stop, k) is = (stop, refl)
+taking_ends : (x : State) (p : Taken × Kernel) → x.end ≡ None → EndsSo (stops_taking p.0) (after_taking x p).end
+taking_ends x (taken.Nothing, k) going = record { over = λ is. absurd (cc); going = λ is. going }
+taking_ends x (taken.Vector v, k) going = record { over = λ is. absurd (cc); going = λ is. refl }
+taking_ends x (taken.Stopped stop, k) going = record { over = λ is. (stop, refl); going = λ is. absurd (cc) }
 
-behind_interrupt : (x : State) (p : Taken × Kernel) → x.end ≡ None → stops_taking p.0 ≡ false → (after_taking x p).end ≡ None
-behind_interrupt x (taken.Nothing, k) going is = going
-behind_interrupt x (taken.Vector v, k) going is = refl
-behind_interrupt x (taken.Stopped stop, k) going is = absurd (cc)
-
-take_stops : (x y : State) (stops : Bool) → MakesTake x stops y → stops ≡ true → IsStop y.end
-take_stops x y stops makes over = subst (λ (s : State). IsStop s.end) (sym makes.result) (after_interrupt x (interrupts.taken x.kernel makes.owed.target) (makes.halts ∙ over))
-
-stops_take : (x y : State) (stops : Bool) → MakesTake x stops y → IsStop y.end → stops ≡ true
-stops_take x y true makes over = refl
-stops_take x y false makes over = absurd (none_on y.end over (ap (λ (s : State). s.end) makes.result ∙ behind_interrupt x (interrupts.taken x.kernel makes.owed.target) makes.going makes.halts))
+take_ends : (x y : State) (stops : Bool) → MakesTake x stops y → EndsSo stops y.end
+take_ends x y stops makes = rw makes.result (rw makes.halts at (taking_ends x (interrupts.taken x.kernel makes.owed.target) makes.going))
 
 -- Rewritten code goes on behind a service just where no arrival is owed, and there is no end.
 owed_behind : (due : Bool) (p : Served × Kernel) → is_resume p.0 ≡ false → stops_served p.0 ≡ false → (after_service due p).owed ≡ None → ⊥
 owed_behind due (answers.Resume line, k) on going free = absurd (cc)
-owed_behind due (answers.Goto target stub, k) on going free = absurd (cc)
-owed_behind due (answers.Woke target, k) on going free = absurd (cc)
-owed_behind due (answers.Stopped stop, k) on going free = absurd (cc)
+owed_behind due (_, k) on going free = absurd (cc)
 
 free_behind : (due : Bool) (p : Served × Kernel) → is_resume p.0 ≡ true → (after_service due p).owed ≡ None
 free_behind due (answers.Resume line, k) on = refl
-free_behind due (answers.Goto target stub, k) on = absurd (cc)
-free_behind due (answers.Woke target, k) on = absurd (cc)
-free_behind due (answers.Stopped stop, k) on = absurd (cc)
-
-on_by : (x y : State) → Passed x.kernel (served x.kernel).1 (served x.kernel).0 → y ≡ after_service (is_due x.kernel) (served x.kernel) → y.owed ≡ None → y.end ≡ None
-    → (0xF004 ≤ x.kernel.mote.cpu.pc) × (x.kernel.mote.cpu.pc ≤ 0xF007)
-on_by x y (On on going from to pc) result free unended = (from, to)
-on_by x y (Over over pc) result free unended = absurd (none_on y.end (subst (λ (s : State). IsStop s.end) (sym result) (after_serving (is_due x.kernel) (served x.kernel) over)) unended)
-on_by x y (Away on going at pc) result free unended = absurd (owed_behind (is_due x.kernel) (served x.kernel) on going (ap (λ (s : State). s.owed) (sym result) ∙ free))
+free_behind due (_, k) on = absurd (cc)
 
 pub serve_on : (x y : State) (line : Option Line) (stops : Bool) → MakesServe x line stops y → y.owed ≡ None → y.end ≡ None → (0xF004 ≤ x.kernel.mote.cpu.pc) × (x.kernel.mote.cpu.pc ≤ 0xF007)
-serve_on x y line stops makes free unended = on_by x y (passed_at x.kernel makes.can) makes.result free unended
+serve_on x y line stops makes free unended = elim (passed_at x.kernel makes.can) [
+  | On on going from to pc ↦ (from, to)
+  | Over over pc ↦ absurd (none_on y.end (subst (λ (s : State). IsStop s.end) (sym makes.result) ((serving_ends (is_due x.kernel) (served x.kernel)).over over)) unended)
+  | Away on going at pc ↦ absurd (owed_behind (is_due x.kernel) (served x.kernel) on going (ap (λ (s : State). s.owed) (sym makes.result) ∙ free))
+]
 
 -- .. and the kernel has control behind the others
-high_is : (m : Mote) → 0xF000 ≤ m.cpu.pc → is_with_kernel m ≡ true
-high_is m high =
-    let is : nat_le 0xF000 m.cpu.pc ≡ true = grind (arith, nat_tests, high) in
-    ap (λ b. (m.cpu.pc == 0) || b) is ∙ or_true (m.cpu.pc == 0)
-
 pub kernel_same : (m n : Mote) → n.cpu.pc ≡ m.cpu.pc → is_with_kernel m ≡ true → is_with_kernel n ≡ true
 kernel_same m n same has = ap (λ pc. (pc == 0) || nat_le 0xF000 pc) same ∙ has
 
@@ -121,8 +95,9 @@ away_by : (x y : State) (w : Awaited) → Passed x.kernel (served x.kernel).1 (s
 away_by x y w (On on going from to pc) high kernel result owes unended =
     absurd (let e : None ≡ Some w = sym (free_behind (is_due x.kernel) (served x.kernel) on) ∙ ap (λ (s : State). s.owed) (sym result) ∙ owes in cc)
 away_by x y w (Over over pc) high kernel result owes unended =
-    absurd (none_on y.end (subst (λ (s : State). IsStop s.end) (sym result) (after_serving (is_due x.kernel) (served x.kernel) over)) unended)
-away_by x y w (Away on going at pc) high kernel result owes unended = kernel_same (mote_of x) (mote_of y) (ap (λ (k : Kernel). k.mote.cpu.pc) kernel ∙ pc) (high_is (mote_of x) high)
+    absurd (none_on y.end (subst (λ (s : State). IsStop s.end) (sym result) ((serving_ends (is_due x.kernel) (served x.kernel)).over over)) unended)
+away_by x y w (Away on going at pc) high kernel result owes unended =
+    kernel_same (mote_of x) (mote_of y) (ap (λ (k : Kernel). k.mote.cpu.pc) kernel ∙ pc) (or_right ((mote_of x).cpu.pc == 0) (nat_le 0xF000 (mote_of x).cpu.pc) (grind (arith, nat_tests, high)))
 
 -- an arrival leaves no end but its own refusal
 refusal_stops : (why : ArriveStop) → IsStop (Some (end_by why)) → ⊥
@@ -141,34 +116,24 @@ none_owed s (Some refused) w owes going = absurd (let e : Some (end_by refused.w
 -- Where the program stops. --------------------------------------------------------------------------------
 
 act_stops : (x : State) (move : Move) (y : State) → Makes x move y → is_stop (act_of move x y) ≡ true → IsStop y.end
-act_stops x (Begin line) y makes over = absurd (cc)
-act_stops x (Within (Plain line)) y makes over = absurd (cc)
-act_stops x (Within (Serve line stops)) y makes over = serve_stops x y line stops makes over
-act_stops x (Arrive target made ops) y makes over = absurd (cc)
-act_stops x (Take stops) y makes over = take_stops x y stops makes over
+act_stops x (Within (Serve line stops)) y makes over = (serve_ends x y line stops makes).over over
+act_stops x (Take stops) y makes over = (take_ends x y stops makes).over over
+act_stops x _ y makes over = absurd (cc)
 
 stops_act : (x : State) (move : Move) (y : State) → Makes x move y → IsStop y.end → is_stop (act_of move x y) ≡ true
-stops_act x (Begin line) y makes over = absurd (none_on y.end over (ap (λ (s : State). s.end) makes.result ∙ makes.going))
-stops_act x (Within (Plain line)) y makes over = absurd (none_on y.end over (ap (λ (s : State). s.end) makes.result ∙ makes.going))
-stops_act x (Within (Serve line stops)) y makes over = stops_serve x y line stops makes over
+stops_act x (Within (Serve line stops)) y makes over = stops_so stops y.end (serve_ends x y line stops makes) over
 stops_act x (Arrive target made ops) y makes over =
     absurd (settled_stops (placed (with_store x makes.store) makes.arrival.place) makes.arrival.refused (subst (λ (s : State). IsStop s.end) makes.after over))
-stops_act x (Take stops) y makes over = stops_take x y stops makes over
+stops_act x (Take stops) y makes over = stops_so stops y.end (take_ends x y stops makes) over
+stops_act x _ y makes over = absurd (none_on y.end over (ap (λ (s : State). s.end) makes.result ∙ makes.going))
 
 -- a move is made only where there is no end
 move_goes : (x : State) (move : Move) (y : State) → Makes x move y → x.end ≡ None
-move_goes x (Begin line) y makes = makes.going
 move_goes x (Within (Plain line)) y makes = makes.going
-move_goes x (Within (Serve line stops)) y makes = makes.going
-move_goes x (Arrive target made ops) y makes = makes.going
-move_goes x (Take stops) y makes = makes.going
-
-false_by : (b : Bool) → (b ≡ true → ⊥) → b ≡ false
-false_by true never = absurd (never refl)
-false_by false never = refl
+move_goes x _ y makes = makes.going
 
 unstopped : (x : State) (move : Move) (y : State) → Makes x move y → y.end ≡ None → is_stop (act_of move x y) ≡ false
-unstopped x move y makes going = false_by (is_stop (act_of move x y)) (λ over. none_on y.end (act_stops x move y makes over) going)
+unstopped x move y makes going = false_from_ne_true (is_stop (act_of move x y)) (λ over. none_on y.end (act_stops x move y makes over) going)
 
 pub stays_over : (x : State) (moves : List Move) (z : State) → Walk x moves z → IsStop x.end → IsStop z.end
 stays_over x [] z walk over = subst (λ (s : State). IsStop s.end) walk over
@@ -192,14 +157,13 @@ abbrev pub Asked : State → Type 0
 Asked x = (w : Awaited) → x.owed ≡ Some w → is_with_kernel (mote_of x) ≡ true
 
 asks_on : (x : State) (move : Move) (y : State) → Makes x move y → Asked x → y.end ≡ None → Asked y
-asks_on x (Begin line) y makes asked going w owes = absurd (let e : None ≡ Some w = sym makes.free ∙ sym (ap (λ (s : State). s.owed) makes.result) ∙ owes in cc)
-asks_on x (Within (Plain line)) y makes asked going w owes = absurd (let e : None ≡ Some w = sym makes.free ∙ sym (ap (λ (s : State). s.owed) makes.result) ∙ owes in cc)
 asks_on x (Within (Serve line stops)) y makes asked going w owes = away_by x y w (passed_at x.kernel makes.can) (at_an_entry x.kernel makes.can).0 (kernel_served x y line stops makes) makes.result
     owes going
 asks_on x (Arrive target made ops) y makes asked going w owes =
     absurd (none_owed (placed (with_store x makes.store) makes.arrival.place) makes.arrival.refused w (sym (ap (λ (s : State). s.owed) makes.after) ∙ owes)
     (sym (ap (λ (s : State). s.end) makes.after) ∙ going))
 asks_on x (Take stops) y makes asked going w owes = kernel_same (mote_of x) (mote_of y) (ap (λ (m : Mote). m.cpu.pc) (taken_keeps x y stops makes).mote.stays) (asked makes.owed makes.owes)
+asks_on x _ y makes asked going w owes = absurd (let e : None ≡ Some w = sym makes.free ∙ sym (ap (λ (s : State). s.owed) makes.result) ∙ owes in cc)
 
 pub kernel_has : (x : State) (moves : List Move) (z : State) → Walk x moves z → Asked x → z.end ≡ None → Asked z
 kernel_has x [] z walk asked going = subst Asked walk asked
@@ -212,11 +176,11 @@ within_stops : (x z : State) (rest : List Inner) → Walk x (map Within rest) z 
 within_stops x z [] walk some = absurd (omega (arith, some))
 within_stops x z (Plain line ∷ rest) walk some = within_stops walk.0 z rest walk.2 some
 within_stops x z (Serve line false ∷ rest) walk some = within_stops walk.0 z rest walk.2 some
-within_stops x z (Serve line true ∷ rest) walk some = stays_over walk.0 (map Within rest) z walk.2 (serve_stops x walk.0 line true walk.1 refl)
+within_stops x z (Serve line true ∷ rest) walk some = stays_over walk.0 (map Within rest) z walk.2 ((serve_ends x walk.0 line true walk.1).over refl)
 
 take_way : (x z : State) (stops : Bool) (n : Numbers) → Walk x (Take stops ∷ []) z → IsStop z.end ⊎ ((numbered (Take stops ∷ []) n).steps ≡ n.steps + 1)
 unfolding moved
-take_way x z true n walk = inl (subst (λ (s : State). IsStop s.end) walk.2 (take_stops x walk.0 true walk.1 refl))
+take_way x z true n walk = inl (subst (λ (s : State). IsStop s.end) walk.2 ((take_ends x walk.0 true walk.1).over refl))
 take_way x z false n walk = inr refl
 
 begin_way : (x z : State) (line : Option Line) (rest : List Inner) (n : Numbers) (stops : ℕ) → count_stop rest ≡ stops → Walk x (Begin line ∷ map Within rest) z
@@ -257,8 +221,7 @@ steps_to at start (suc n) moves z (y, before, arrival, own, lines, all, steps, s
 
 -- Behind them the moves of a step that isn't made stop the program.
 pub unmade_stops : (at : ℕ → Moment) (start last z : Machine) (n : ℕ) (before arrival own : List Move) (lines : List Line) → StepsTo at start n before last → last.end ≡ None
-    → IsArrival last.at arrival → AreOwn own
-    → Goes last z (arrival ++ own) lines → z.steps ≡ start.steps + n → IsStop z.end
+    → IsArrival last.at arrival → AreOwn own → Goes last z (arrival ++ own) lines → z.steps ≡ start.steps + n → IsStop z.end
 unmade_stops at start last z n before arrival own lines steps going arrives makes goes done =
     elim (step_way (state_of last) (state_of z) last.at arrival own (numbers_of last) arrives makes goes.walk) [
       | inl over ↦ over

@@ -14,6 +14,13 @@ use Rattle.nat_page.proofs.TwoWords.{first_of_two, second_of_two, word_beside_tw
 use Rattle.nat_page.proofs.UnlinkLaws.{calls_beside, beside_below, links_among}
 use Rattle.theorem_reader.specs.Wear.{IsSamePage}
 
+-- whether a number is one of two in a row
+pub one_of_two : (x a : ℕ) → ((x ≡ a) ⊎ (x ≡ a + 1)) ⊎ ((x ≢ a) × (x ≢ a + 1))
+one_of_two x a = elim (cases_eq x a) [
+  | inl first ↦ inl (inl first)
+  | inr apart ↦ elim (cases_eq x (a + 1)) [ inl second ↦ inl (inr second) | inr apart' ↦ inr (apart, apart') ]
+]
+
 -- Pieces in a row. ----------------------------------------------------------------------------------------
 
 -- x is one of the first two words of a stub that was picked, and calls the bridge
@@ -59,13 +66,11 @@ called_by words now test a (Link t ∷ pieces) x inside =
     let end = a + size (Link t ∷ pieces) in
     let By : Bool → Type 0 = λ b. is_picked words test a t ≡ b → StaysOrCalled words now (with_calls now (if b then a ∷ stubs else stubs)) test a end x in
     (elim (is_picked words test a t) as By [
-      | false ↦ λ none. called_in words now _ test (a + 3) a (a + 3 + size pieces) end x (omega arith) (omega (arith, long))
-          (called_by words now test (a + 3) pieces x (omega (arith, inside, long)))
+      | false ↦ λ none. called_in words now _ test (a + 3) a (a + 3 + size pieces) end x (omega arith) (omega (arith, long)) (called_by words now test (a + 3) pieces x (omega (arith, inside, long)))
       | true ↦ λ picked.
           let two = with_two_words now a call_word bridge_entry in
           let new = with_calls two stubs in
-          let among = links_among words test (a + 3) pieces in
-          let beside = λ (b : ℕ) (below : b < a + 3). calls_beside two stubs b (beside_below (a + 3) (a + 3 + size pieces) b stubs below among) in
+          let beside = λ (b : ℕ) (below : b < a + 3). calls_beside two stubs b (beside_below (a + 3) (a + 3 + size pieces) b stubs below (links_among words test (a + 3) pieces)) in
           let room : a + 1 < length now = omega (arith, inside, long) in
           let here : (x ≡ a) ⊎ (x ≡ a + 1) → IsCalled words new test a end x = λ own. record {
             at = a;
@@ -77,14 +82,11 @@ called_by words now test a (Link t ∷ pieces) x inside =
             call = beside a (omega arith) ∙ first_of_two now a call_word bridge_entry room;
             bridge = beside (a + 1) (omega arith) ∙ second_of_two now a call_word bridge_entry room;
           } in
-          elim (cases_eq x a) [
-            | inl first ↦ inr (here (inl first))
-            | inr apart ↦ elim (cases_eq x (a + 1)) [
-              | inl second ↦ inr (here (inr second))
-              | inr apart' ↦ elim (called_by words two test (a + 3) pieces x (omega (arith, inside, long, length-with_two_words now a call_word bridge_entry))) [
-                | inl same ↦ inl (same ∙ word_beside_two now a x call_word bridge_entry apart apart')
-                | inr called ↦ called_in words now new test (a + 3) a (a + 3 + size pieces) end x (omega arith) (omega (arith, long)) (inr called)
-              ]
+          elim (one_of_two x a) [
+            | inl which ↦ inr (here which)
+            | inr apart ↦ elim (called_by words two test (a + 3) pieces x (omega (arith, inside, long, length-with_two_words now a call_word bridge_entry))) [
+              | inl same ↦ inl (same ∙ word_beside_two now a x call_word bridge_entry apart.0 apart.1)
+              | inr called ↦ called_in words now new test (a + 3) a (a + 3 + size pieces) end x (omega arith) (omega (arith, long)) (inr called)
             ]
           ]
     ]) refl
@@ -117,9 +119,8 @@ then_calls IsGone old mid new page same calls k below = elim (calls k below) [
 pub calls_unlinked : (IsGone : ℕ → Type 0) (image words : List ℕ) (victim page : ℕ) → IsGone victim → 128 * page + 128 ≤ length words → size (pieces_in image words page) ≤ 128
     → KeepsCalls IsGone words (with_calls words (stubs_into image words victim page)) page
 calls_unlinked IsGone image words victim page gone inside fits k below =
-    let pieces = pieces_in image words page in
     let new = with_calls words (stubs_into image words victim page) in
-    elim (called_by words words (leads_into victim) (page_words * page) pieces (128 * page + k) (omega (arith, inside, fits))) [
+    elim (called_by words words (leads_into victim) (page_words * page) (pieces_in image words page) (128 * page + k) (omega (arith, inside, fits))) [
       | inl same ↦ Same same
       | inr one ↦
           let j = one.at % 128 in
@@ -128,8 +129,7 @@ calls_unlinked IsGone image words victim page gone inside fits k below =
           let parts = and_parts (word_at words one.at == jump_word) (leads_into victim one.target (word_at words (one.at + 1))) one.picked in
           let into : word_at words (one.at + 1) / 128 ≡ victim = eqb-true _ _ parts.1 in
           Called j (elim one.own [ inl first ↦ inl (omega (arith, first, at)) | inr second ↦ inr (omega (arith, second, at)) ]) (omega (arith, at, one.to, fits))
-          (ap (word_at words) (sym at) ∙ eqb-true _ _ parts.0)
-          (subst IsGone (sym into ∙ ap (λ a. word_at words a / 128) behind) gone)
+          (ap (word_at words) (sym at) ∙ eqb-true _ _ parts.0) (subst IsGone (sym into ∙ ap (λ a. word_at words a / 128) behind) gone)
           (ap (word_at new) (sym at) ∙ one.call) (ap (word_at new) (sym behind) ∙ one.bridge)
     ]
 
@@ -154,20 +154,17 @@ jumps_resolved IsGone old mid s place page calls inside own room call bridge cal
     let within : s + 1 < length mid = omega (arith, inside, at, room) in
     let here : (k ≡ j) ⊎ (k ≡ j + 1) → KeepsJump IsGone place old new page k = λ which. Jumped j which room (ap (word_at old) (sym at) ∙ call) (ap (word_at old) (sym behind) ∙ bridge)
     (ap (word_at new) (sym at) ∙ first_of_two mid s jump_word place within) (ap (word_at new) (sym behind) ∙ second_of_two mid s jump_word place within) in
-    elim (cases_eq k j) [
-      | inl first ↦ here (inl first)
-      | inr apart ↦ elim (cases_eq k (j + 1)) [
-        | inl second ↦ here (inr second)
-        | inr apart' ↦
-            let beside =
-            λ (i : ℕ) (away : i ≢ j) (away' : i ≢ j + 1). word_beside_two mid s (128 * page + i) jump_word place (λ is. away (omega (arith, is, at))) (λ is. away' (omega (arith, is, at))) in
-            elim (calls k below) [
-              | Same is ↦ Unresolved (Same (beside k apart apart' ∙ is))
-              | Called i which room' jump gone first second ↦
-                  let not_first : i ≢ j = λ is. omega (arith, jump, ap (λ x. word_at old (128 * page + x)) is, ap (word_at old) at, call) in
-                  let not_second : i ≢ j + 1 = λ is. omega (arith, first, ap (λ x. word_at mid (128 * page + x)) is, ap (word_at mid) behind, bridge') in
-                  let not_before : i + 1 ≢ j = λ is. omega (arith, second, ap (λ x. word_at mid (128 * page + x)) is, ap (word_at mid) at, call') in
-                  Unresolved (Called i which room' jump gone (beside i not_first not_second ∙ first) (beside (i + 1) not_before (λ is. not_first (omega (arith, is))) ∙ second))
-            ]
-      ]
+    elim (one_of_two k j) [
+      | inl which ↦ here which
+      | inr apart ↦
+          let beside =
+          λ (i : ℕ) (away : i ≢ j) (away' : i ≢ j + 1). word_beside_two mid s (128 * page + i) jump_word place (λ is. away (omega (arith, is, at))) (λ is. away' (omega (arith, is, at))) in
+          elim (calls k below) [
+            | Same is ↦ Unresolved (Same (beside k apart.0 apart.1 ∙ is))
+            | Called i which room' jump gone first second ↦
+                let not_first : i ≢ j = λ is. omega (arith, jump, ap (λ x. word_at old (128 * page + x)) is, ap (word_at old) at, call) in
+                let not_second : i ≢ j + 1 = λ is. omega (arith, first, ap (λ x. word_at mid (128 * page + x)) is, ap (word_at mid) behind, bridge') in
+                let not_before : i + 1 ≢ j = λ is. omega (arith, second, ap (λ x. word_at mid (128 * page + x)) is, ap (word_at mid) at, call') in
+                Unresolved (Called i which room' jump gone (beside i not_first not_second ∙ first) (beside (i + 1) not_before (λ is. not_first (omega (arith, is))) ∙ second))
+          ]
     ]

@@ -1,18 +1,18 @@
 -- What several programs did on one mote, stint after stint.
 use Rattle.std.proofs.Common.{◌≡◌, ◌≢◌, ℕ, zero, suc, ◌+◌, ◌-◌, ◌*◌, ◌≤◌, min, eqb, cond, Bool, true, false, List, [], ◌∷◌, ◌++◌, length, Option, Some, None, refl, sym, ap, ◌∙◌, subst, arith}
 use Rattle.std.proofs.Common.{zero-add, inl, inr}
-use Rattle.std.specs.Prelude.{slice_get, slice_set, slice_index_or, sum_by, take, nat_le, ◌==◌, ◌||◌}
+use Rattle.std.specs.Prelude.{slice_get, slice_set, slice_index_or, sum_by, nat_le, ◌==◌, ◌||◌}
 use Rattle.std.specs.List.{list_any}
 use Rattle.std.proofs.Math.Nat.{min-le_left}
 use Rattle.std.proofs.lemmas.Bool.Decides.{nat_tests}
 use Rattle.std.proofs.lemmas.Option.{same_Some}
+pub use Rattle.std.proofs.lemmas.List.{length-set as length_set}
 use Rattle.std.proofs.lemmas.List.FromFn.{length-map-range_with_len}
 use Rattle.std.proofs.lemmas.List.Sums.{sum_by-cons}
 use Rattle.sram_layout.specs.Bytes.{byte_count, byte_at}
 use Rattle.sram_layout.proofs.PartLaws.{part_byte}
-use Rattle.flash_words.specs.Memory.{Memory}
+use Rattle.flash_words.specs.Memory.{Memory, new_flash}
 use Rattle.flash_words.proofs.LoadedLaws.{loaded_image}
-use Rattle.flash_words.specs.declared.layout.Layout.{Layout}
 use Rattle.flash_words.specs.Layouts.{layout_of, image_of, IsRight}
 use Rattle.nat_page.specs.Faithful.{IsFaithful}
 use Rattle.nat_page.specs.Used.{used_pages}
@@ -32,17 +32,16 @@ use Rattle.program_steps.proofs.Bounds.{most_owed}
 use Rattle.tk_run.specs.Running.{StandsAfter}
 use Rattle.preempt_count.specs.Counting.{bound_per_crossing}
 use Rattle.std.specs.Option.{option_map}
-use Rattle.flash_words.specs.Memory.{new_flash}
 use Rattle.parked_tasks.specs.declared.task.Task.{Task}
 use Rattle.parked_tasks.specs.declared.task.TaskEnd.{TaskEnd}
 use Rattle.parked_tasks.specs.declared.task.TaskEnd.TheVariants as task_ends
-use Rattle.parked_tasks.specs.AtBoot.{mote_at_boot, parked_at_boot, at_start, waiting_from}
+use Rattle.parked_tasks.specs.AtBoot.{parked_at_boot, at_start, waiting_from}
 use Rattle.task_input.specs.Images.{task_words}
 use Rattle.parked_tasks.specs.Parking.{low_count, high_count, parked_of, Shares, IsBack}
 use Rattle.parked_tasks.specs.declared.parked.Parked.{Parked}
 use Rattle.parked_tasks.specs.Handing.{parked_by}
 use Rattle.tk_tasks.specs.Changes.{given_by, given_to, next_task}
-use Rattle.tk_tasks.specs.Plays.{Play, AreAStep, AreStopped, lines_told, IsPlay, GoesOn, TaskPath, counted}
+use Rattle.tk_tasks.specs.Plays.{Play, AreAStep, lines_told, IsPlay, GoesOn, TaskPath, counted}
 use Rattle.tk_tasks.specs.Plays as playing
 use Rattle.tk_tasks.specs.States.{Tasks, owed_of, mote_for, arrivals_of, machine_of, AreSound, player_of, turns_of, players_from}
 use Rattle.parked_tasks.specs.Ends.{flat_end_of}
@@ -53,12 +52,11 @@ use Rattle.parked_tasks.proofs.Sums.{sum_has}
 use Rattle.tk_tasks.proofs.Changing.{players_length, running_task}
 use Rattle.tk_tasks.proofs.Paths.{player_here}
 use Rattle.tk_tasks.proofs.Stints.{IsHeld, AreLeft, first_motes, waiting_motes, left_at_boot, mote_before, mote_behind, is_here, left_behind, sum_play, pages_play, turned_play, has_back, left_counted}
-use Rattle.tk_run.specs.Running.{StandsAfter}
 use Rattle.cli_words.specs.declared.request.TaskRequest.{TaskRequest}
 use Rattle.tkernel_cli.specs.TasksRuns.{start_by}
-use Rattle.theorem_reader.specs.Acts.{Follow, IsNew, IsBoot, steps_in, services_in, made_in, StopsLast}
+use Rattle.theorem_reader.specs.Acts.{Follow, IsNew, IsBoot, steps_in, services_in, made_in}
 use Rattle.theorem_reader.specs.Memory.{HasState}
-use Rattle.theorem_reader.specs.Pools.{pool_size, AreFaithful}
+use Rattle.theorem_reader.specs.Pools.{AreFaithful}
 use Rattle.theorem_reader.specs.Steps.{AreOfStep, is_with_kernel, IsBetween}
 use Rattle.theorem_reader.specs.Stints.{Stint, ComesBack, IsParked, HasPart, Here, Away, AreOfTry, TakeTurns, changes_from, task_end}
 use Rattle.theorem_reader.specs.Tasks.{AskedTasks, tasks_options_of, words_of, events_of, reset_of, LeadThere}
@@ -69,7 +67,7 @@ use Rattle.theorem_reader.proofs.Bounding.{natural_of, entries_of, pages_of, lin
 use Rattle.theorem_reader.proofs.Motes.{one_mote}
 use Rattle.theorem_reader.proofs.Holding.{has_state}
 use Rattle.theorem_reader.proofs.Pooling.{faithful_is}
-use Rattle.theorem_reader.proofs.Stepwise.{acts_as, step_acts, between_held}
+use Rattle.theorem_reader.proofs.Stepwise.{acts_as, HasCome, step_acts, between_held}
 use Rattle.theorem_reader.proofs.Pacing.{stint_of, stints_of, counts_from_boot, few_from_boot}
 use Rattle.theorem_reader.proofs.Asking.{AllAsked, asked_before, asked_behind}
 use Rattle.theorem_reader.proofs.Stopping.{Asked, no_stop, stop_last}
@@ -78,16 +76,10 @@ use Rattle.theorem_reader.proofs.Sparing.{walk_spares}
 
 -- How many tasks there are. -------------------------------------------------------------------------------
 
-pub length_set : (players : List Player) (i : ℕ) (p : Player) → length (slice_set players i p) ≡ length players
-length_set [] i p = refl
-length_set (q ∷ players) zero p = refl
-length_set (q ∷ players) (suc i) p = ap (λ n. suc n) (length_set players i p)
-
 pub path_long : (n : ℕ) (t : Tasks) (plays : List Play) (new : Tasks) → TaskPath n t plays new → length new.tasks ≡ length t.tasks
 path_long n t [] new is = ap (λ (z : Tasks). length z.tasks) (sym is)
 path_long n t (play ∷ plays) new (mid, one, rest) =
-    let p = player_of n t t.running one.task in
-    let step = once_follows (turns_of n t) p (ap flat_end_of one.going) in
+    let step = once_follows (turns_of n t) (player_of n t t.running one.task) (ap flat_end_of one.going) in
     path_long n mid plays new rest ∙ sym (players_length n mid 0 mid.tasks) ∙ ap (λ (z : Turns). length z.players) one.in_turn ∙ ap (λ (l : List Player). length l) step.players
     ∙ length_set (turns_of n t).players t.running step.q ∙ players_length n t 0 t.tasks
 
@@ -106,29 +98,20 @@ comes_back left own now shares back = record {
   high = λ a from to. back.high a from (omega arith);
 }
 
-holds_before : (words : List ℕ) (quantum n : ℕ) (t new : Tasks) (play : Play) → (one : IsPlay n t play new) → t.kernel.layout ≡ layout_of (length words)
-    → image_of (layout_of (length words)) t.kernel.mote.flash.words ≡ words → t.kernel.quantum ≡ quantum
-    → Holds words quantum (state_of (machine_of t t.running one.task))
-holds_before words quantum n t new play one laid held counts =
-    record { laid = laid; held = ap (λ (m : Mote). image_of (layout_of (length words)) m.flash.words) (mote_before n t new play one) ∙ held; counts = counts }
-
 record FollowsPlay (words : List ℕ) (quantum n : ℕ) (t new : Tasks) (play : Play) (one : IsPlay n t play new) : Type 0 where
   follow : Follow words quantum t.kernel.mote (stint_of n t play new one).acts one.mid.kernel.mote
   held : image_of (layout_of (length words)) one.mid.kernel.mote.flash.words ≡ words
   counts : one.mid.kernel.quantum ≡ quantum
 
-follow_play : (words : List ℕ) (quantum n : ℕ) (t new : Tasks) (play : Play) → (one : IsPlay n t play new) → t.kernel.layout ≡ layout_of (length words)
-    → image_of (layout_of (length words)) t.kernel.mote.flash.words ≡ words → t.kernel.quantum ≡ quantum → FollowsPlay words quantum n t new play one
-follow_play words quantum n t new play one laid held counts =
-    let x = state_of (machine_of t t.running one.task) in
-    let z = state_of (machine_of one.mid t.running one.next) in
+follow_play : (words : List ℕ) (quantum n : ℕ) (t new : Tasks) (play : Play) → (one : IsPlay n t play new) → Holds words quantum (state_of (machine_of t t.running one.task))
+    → FollowsPlay words quantum n t new play one
+follow_play words quantum n t new play one holds =
     let acts = (stint_of n t play new one).acts in
-    let l = layout_of (length words) in
-    let done = follow words quantum x play.moves z one.tried.goes.walk (holds_before words quantum n t new play one laid held counts) in
+    let done = follow words quantum (state_of (machine_of t t.running one.task)) play.moves (state_of (machine_of one.mid t.running one.next)) one.tried.goes.walk holds in
     record {
       follow = subst (λ (b : Mote). Follow words quantum b acts one.mid.kernel.mote) (mote_before n t new play one)
           (subst (λ (b : Mote). Follow words quantum (machine_of t t.running one.task).kernel.mote acts b) (mote_behind n t new play one) done.follow);
-      held = subst (λ (b : Mote). image_of l b.flash.words ≡ words) (mote_behind n t new play one) done.holds.held;
+      held = subst (λ (b : Mote). image_of (layout_of (length words)) b.flash.words ≡ words) (mote_behind n t new play one) done.holds.held;
       counts = done.holds.counts;
     }
 
@@ -158,105 +141,36 @@ stands_here n t new play one =
     record { ready = its.going one.whole one.going; quiet = its.quiet one.whole one.going; stands = refl }
 
 -- the moves of a try as acts
-step_tried : (image : List ℕ) (quantum : ℕ) (y : Machine) (z : State) (moves : List Move) → Holds image quantum (state_of y) → StandsAfter (λ k. flat_of y) 0 y → Asked (state_of y)
-    → AreAStep y.at moves → (walk : Walk (state_of y) moves z)
+step_tried : (image : List ℕ) (quantum : ℕ) (y : Machine) (z : State) (moves : List Move) → HasCome image quantum (λ k. flat_of y) 0 y → AreAStep y.at moves → (walk : Walk (state_of y) moves z)
     → AreOfStep image (flat_of y) (mote_of (state_of y)) (acts_of (state_of y) moves z walk)
-step_tried image quantum y z moves holds stands asked made =
+step_tried image quantum y z moves (holds, stands, asked) made =
     acts_as (state_of y) z (AreOfStep image (flat_of y) (mote_of (state_of y))) moves (made.arrival ++ made.own) made.parts
-    (step_acts image quantum (λ k. flat_of y) 0 y z made.arrival made.own holds stands asked made.arrives made.makes)
+    (step_acts image quantum (λ k. flat_of y) 0 y z made.arrival made.own (holds, stands, asked) made.arrives made.makes)
 
-stop_tried : (image : List ℕ) (quantum : ℕ) (y : Machine) (z : State) (moves : List Move) → Holds image quantum (state_of y) → StandsAfter (λ k. flat_of y) 0 y → Asked (state_of y)
-    → AreStopped y.at moves z.end → (walk : Walk (state_of y) moves z)
-    → AreOfStep image (flat_of y) (mote_of (state_of y)) (acts_of (state_of y) moves z walk) × StopsLast true (acts_of (state_of y) moves z walk)
-stop_tried image quantum y z moves holds stands asked made walk =
-    (step_tried image quantum y z moves holds stands asked made.step walk, stop_last (state_of y) moves z walk stands.ready.going (made.stop, made.stops))
+try_acts : (image : List ℕ) (quantum : ℕ) (y z : Machine) (moves : List Move) → HasCome image quantum (λ k. flat_of y) 0 y → (comes : Played) → playing.AreOfTry y.at moves z comes
+    → (walk : Walk (state_of y) moves (state_of z)) → AreOfTry image (flat_of y) (mote_of (state_of y)) (acts_of (state_of y) moves (state_of z) walk) comes
+try_acts image quantum y z moves (holds, stands, asked) (Over Spent) none = acts_as (state_of y) (state_of z) (λ acts. acts ≡ []) moves [] none (λ walk. refl)
+try_acts image quantum y z moves (holds, stands, asked) (Over (Wild pc)) none = acts_as (state_of y) (state_of z) (λ acts. acts ≡ []) moves [] none (λ walk. refl)
+try_acts image quantum y z moves (holds, stands, asked) (Over _) made = λ walk. (
+  step_tried image quantum y (state_of z) moves (holds, stands, asked) made.step walk,
+  stop_last (state_of y) moves (state_of z) walk stands.ready.going (made.stop, made.stops),
+)
+try_acts image quantum y z moves (holds, stands, asked) (Gone line checkpoint next) made =
+    λ walk. (step_tried image quantum y (state_of z) moves (holds, stands, asked) made.step walk, no_stop (state_of y) moves (state_of z) walk made.ready.going)
 
-try_acts : (image : List ℕ) (quantum : ℕ) (y z : Machine) (moves : List Move) → Holds image quantum (state_of y) → StandsAfter (λ k. flat_of y) 0 y → Asked (state_of y) → (comes : Played)
-    → playing.AreOfTry y.at moves z comes → (walk : Walk (state_of y) moves (state_of z))
-    → AreOfTry image (flat_of y) (mote_of (state_of y)) (acts_of (state_of y) moves (state_of z) walk) comes
-try_acts image quantum y z moves holds stands asked (Over Spent) none = acts_as (state_of y) (state_of z) (λ acts. acts ≡ []) moves [] none (λ walk. refl)
-try_acts image quantum y z moves holds stands asked (Over (Wild pc)) none = acts_as (state_of y) (state_of z) (λ acts. acts ≡ []) moves [] none (λ walk. refl)
-try_acts image quantum y z moves holds stands asked (Over _) made = stop_tried image quantum y (state_of z) moves holds stands asked made
-try_acts image quantum y z moves holds stands asked (Gone line checkpoint next) made =
-    λ walk. (step_tried image quantum y (state_of z) moves holds stands asked made.step walk, no_stop (state_of y) moves (state_of z) walk made.ready.going)
-
-tried_acts : (words : List ℕ) (quantum n : ℕ) (t new : Tasks) (play : Play) → (one : IsPlay n t play new) → t.kernel.layout ≡ layout_of (length words)
-    → image_of (layout_of (length words)) t.kernel.mote.flash.words ≡ words → t.kernel.quantum ≡ quantum → Asked (state_of (machine_of t t.running one.task))
+tried_acts : (words : List ℕ) (quantum n : ℕ) (t new : Tasks) (play : Play) → (one : IsPlay n t play new) → Holds words quantum (state_of (machine_of t t.running one.task))
+    → Asked (state_of (machine_of t t.running one.task))
     → AreOfTry words (player_of n t t.running one.task).moment t.kernel.mote (stint_of n t play new one).acts (played (player_of n t t.running one.task))
-tried_acts words quantum n t new play one laid held counts asked =
-    let y = machine_of t t.running one.task in
+tried_acts words quantum n t new play one holds asked =
     let z = machine_of one.mid t.running one.next in
     let p = player_of n t t.running one.task in
     subst (λ (b : Mote). AreOfTry words p.moment b (stint_of n t play new one).acts (played p)) (mote_before n t new play one)
-    (try_acts words quantum y z play.moves (holds_before words quantum n t new play one laid held counts) (stands_here n t new play one) asked (played p) one.of_try one.tried.goes.walk)
-
--- between two steps, before it
-counted_before : (words : List ℕ) (quantum n : ℕ) (t new : Tasks) (play : Play) → (one : IsPlay n t play new) → t.kernel.layout ≡ layout_of (length words)
-    → image_of (layout_of (length words)) t.kernel.mote.flash.words ≡ words → t.kernel.quantum ≡ quantum
-    → Asked (state_of (machine_of t t.running one.task)) → IsBetween quantum (player_of n t t.running one.task).moment t.kernel.mote
-counted_before words quantum n t new play one laid held counts asked =
-    let y = machine_of t t.running one.task in
-    subst (IsBetween quantum (flat_of y)) (mote_before n t new play one)
-    (between_held words quantum (λ k. flat_of y) 0 y (holds_before words quantum n t new play one laid held counts) (stands_here n t new play one) asked)
+    (try_acts words quantum (machine_of t t.running one.task) z play.moves (holds, stands_here n t new play one, asked) (played p) one.of_try one.tried.goes.walk)
 
 -- the mote that is left behind the last of them
 abbrev pub left_at_end : (n : ℕ) (t : Tasks) (plays : List Play) (new : Tasks) → TaskPath n t plays new → Mote → Mote
 left_at_end n t [] new is left = left
 left_at_end n t (play ∷ plays) new (mid, one, rest) left = left_at_end n mid plays new rest one.mid.kernel.mote
-
-take_turns : (words : List ℕ) (quantum count n : ℕ) (t : Tasks) (plays : List Play) (new : Tasks) (motes : List Mote) (left : Mote) → length words ≡ 4096 * count → length t.tasks ≡ count
-    → (path : TaskPath n t plays new) → AreLeft t motes left
-    → AllAsked t motes → image_of (layout_of (length words)) left.flash.words ≡ words → t.kernel.quantum ≡ quantum
-    → TakeTurns words quantum (turns_of n t) left motes (stints_of n t plays new path) (turns_of n new) (left_at_end n t plays new path left) (motes_behind n t plays new path motes)
-take_turns words quantum count n t [] new motes left size long is are asked held counts = (ap (turns_of n) is, refl, refl)
-take_turns words quantum count n t (play ∷ plays) new motes left size long (mid, one, rest) are asked held counts =
-    let had = are.each t.running one.task one.here in
-    let laid = one.sound.layout ∙ ap (λ k. layout_of (4096 * k)) long ∙ ap layout_of (sym size) in
-    let here = ap (λ (f : Memory). image_of (layout_of (length words)) f.words) are.shares.flash ∙ held in
-    let done = follow_play words quantum n t mid play one laid here counts in
-    let more = path_long n t (play ∷ []) mid (mid, one, refl) ∙ long in
-    let next = slice_set motes t.running one.mid.kernel.mote in (
-      player_of n t t.running one.task,
-      had.own,
-      t.kernel.mote,
-      one.mid.kernel.mote,
-      player_here n t t.running one.task one.here,
-      ap flat_end_of one.going,
-      refl,
-      had.there,
-      comes_back left had.own t.kernel.mote are.shares (is_here t one.task had.own had.held),
-      stands_before n t mid play one,
-      counted_before words quantum n t mid play one laid here counts (asked_before n t mid play motes left one are asked),
-      tried_acts words quantum n t mid play one laid here counts (asked_before n t mid play motes left one are asked),
-      sym (lines_of_acts (state_of (machine_of t t.running one.task)) play.moves (state_of (machine_of one.mid t.running one.next)) one.tried.goes.walk) ∙ one.tried.goes.told ∙ ap lines_told one.told,
-      done.follow,
-      subst (λ (u : Turns). TakeTurns words quantum u one.mid.kernel.mote next (stints_of n mid plays new rest) (turns_of n new) (left_at_end n mid plays new rest one.mid.kernel.mote)
-          (motes_behind n mid plays new rest next)) one.in_turn
-          (take_turns words quantum count n mid plays new next one.mid.kernel.mote size more rest (left_behind n t mid play motes left one are) (asked_behind n t mid play motes left one are asked)
-          done.held (on_quantum play.changes one.mid mid one.behind ∙ done.counts)),
-    )
-
--- the quantum stays, and the image in flash
-kept_path : (words : List ℕ) (quantum count n : ℕ) (t : Tasks) (plays : List Play) (new : Tasks) (motes : List Mote) (left : Mote) → length words ≡ 4096 * count → length t.tasks ≡ count
-    → TaskPath n t plays new → AreLeft t motes left
-    → image_of (layout_of (length words)) left.flash.words ≡ words → t.kernel.quantum ≡ quantum
-    → (new.kernel.quantum ≡ quantum) × (image_of (layout_of (length words)) new.kernel.mote.flash.words ≡ words)
-kept_path words quantum count n t [] new motes left size long is are held counts =
-    let image : Tasks → List ℕ = λ u. image_of (layout_of (length words)) u.kernel.mote.flash.words in
-    (ap (λ (u : Tasks). u.kernel.quantum) (sym is) ∙ counts, ap image (sym is) ∙ ap (λ (f : Memory). image_of (layout_of (length words)) f.words) are.shares.flash ∙ held)
-kept_path words quantum count n t (play ∷ plays) new motes left size long (mid, one, rest) are held counts =
-    let laid = one.sound.layout ∙ ap (λ k. layout_of (4096 * k)) long ∙ ap layout_of (sym size) in
-    let here = ap (λ (f : Memory). image_of (layout_of (length words)) f.words) are.shares.flash ∙ held in
-    let done = follow_play words quantum n t mid play one laid here counts in
-    kept_path words quantum count n mid plays new (slice_set motes t.running one.mid.kernel.mote) one.mid.kernel.mote size (path_long n t (play ∷ []) mid (mid, one, refl) ∙ long) rest
-    (left_behind n t mid play motes left one are) done.held
-    (on_quantum play.changes one.mid mid one.behind ∙ done.counts)
-
-left_last : (n : ℕ) (t : Tasks) (plays : List Play) (new : Tasks) (motes : List Mote) (left : Mote) → (path : TaskPath n t plays new) → AreLeft t motes left
-    → AreLeft new (motes_behind n t plays new path motes) (left_at_end n t plays new path left)
-left_last n t [] new motes left is are = subst (λ u. AreLeft u motes left) is are
-left_last n t (play ∷ plays) new motes left (mid, one, rest) are = left_last n mid plays new (slice_set motes t.running one.mid.kernel.mote) one.mid.kernel.mote rest
-    (left_behind n t mid play motes left one are)
 
 -- What they count. ----------------------------------------------------------------------------------------
 
@@ -274,8 +188,7 @@ sum_path f g n t (play ∷ plays) new counts (mid, one, rest) =
       sum_path f g n mid plays new counts rest,
       sum_play f n t mid play counts.unparked one,
       counts.play n t mid play one,
-      sum_by-cons g (stint_of n t play mid one)
-          (stints_of n mid plays new rest),
+      sum_by-cons g (stint_of n t play mid one) (stints_of n mid plays new rest),
     )
 
 natural_counts : IsCounted (λ task. task.natural) (λ stint. steps_in stint.acts)
@@ -306,8 +219,7 @@ pages_path n t (play ∷ plays) new (mid, one, rest) =
       pages_path n mid plays new rest,
       pages_play n t mid play one,
       pages_tried n t mid play one,
-      sum_by-cons (λ (stint : Stint). made_in stint.acts) (stint_of n t play mid one)
-          (stints_of n mid plays new rest),
+      sum_by-cons (λ (stint : Stint). made_in stint.acts) (stint_of n t play mid one) (stints_of n mid plays new rest),
     )
 
 abbrev one_unless : Bool → ℕ
@@ -342,39 +254,81 @@ changes_path n t (play ∷ plays) new (mid, one, rest) =
 -- How often pages are erased. -----------------------------------------------------------------------------
 
 -- by a play behind which the pool holds all pages that were made
-play_spares : (words : List ℕ) (quantum n : ℕ) (t new : Tasks) (play : Play) → (one : IsPlay n t play new) → t.kernel.layout ≡ layout_of (length words)
-    → image_of (layout_of (length words)) t.kernel.mote.flash.words ≡ words → t.kernel.quantum ≡ quantum
+play_spares : (words : List ℕ) (quantum n : ℕ) (t new : Tasks) (play : Play) → (one : IsPlay n t play new) → Holds words quantum (state_of (machine_of t t.running one.task))
     → one.mid.pages ≤ (layout_of (length words)).pool_pages → IsSpared t.kernel.mote.flash one.mid.kernel.mote.flash
-play_spares words quantum n t new play one laid held counts fits =
+play_spares words quantum n t new play one holds fits =
     let y = machine_of t t.running one.task in
     let z = machine_of one.mid t.running one.next in
     let flash = y.kernel.mote.flash in
     let l = layout_of (length words) in
     let before : flash ≡ t.kernel.mote.flash = ap (λ (m : Mote). m.flash) (mote_before n t new play one) in
     let behind : z.kernel.mote.flash ≡ one.mid.kernel.mote.flash = ap (λ (m : Mote). m.flash) (mote_behind n t new play one) in
-    let used : used_pages l flash.words ≡ min t.pages l.pool_pages = subst (λ (k : Layout). used_pages k flash.words ≡ min t.pages k.pool_pages) laid
-    (one.sound.each t.running one.task one.here).sound.order.pages in
+    let used : used_pages l flash.words ≡ min t.pages l.pool_pages = rw holds.laid at (one.sound.each t.running one.task one.here).sound.order.pages in
     let none : flash.failing ≡ [] = ap (λ (f : Memory). f.failing) before ∙ one.sound.unfailing in
-    subst (λ (f : Memory). IsSpared f one.mid.kernel.mote.flash) before (subst (IsSpared flash) behind
-    (walk_spares words quantum (state_of y) play.moves (state_of z) one.tried.goes.walk (holds_before words quantum n t new play one laid held counts)
+    subst (λ (f : Memory). IsSpared f one.mid.kernel.mote.flash) before (subst (IsSpared flash) behind (walk_spares words quantum (state_of y) play.moves (state_of z) one.tried.goes.walk holds
     (omega (arith, used, min-le_left t.pages l.pool_pages, pages_tried n t new play one, fits), λ op low high. ap (list_any (λ k. k == op)) none)))
 
--- the change of the task leaves flash
-path_spares : (words : List ℕ) (quantum count n : ℕ) (t : Tasks) (plays : List Play) (new : Tasks) (motes : List Mote) (left : Mote) → length words ≡ 4096 * count → length t.tasks ≡ count
-    → TaskPath n t plays new → AreLeft t motes left
-    → image_of (layout_of (length words)) left.flash.words ≡ words → t.kernel.quantum ≡ quantum → new.pages ≤ (layout_of (length words)).pool_pages → IsSpared t.kernel.mote.flash new.kernel.mote.flash
-path_spares words quantum count n t [] new motes left size long is are held counts fits = subst (λ (u : Tasks). IsSpared t.kernel.mote.flash u.kernel.mote.flash) is (spares_self t.kernel.mote.flash)
-path_spares words quantum count n t (play ∷ plays) new motes left size long (mid, one, rest) are held counts fits =
+-- What a path leads to. ---------------------------------------------------------------------------------
+
+-- The programs take turns by its stints; the image stays in flash, and the quantum; the change of the task leaves flash.
+record HaveTurned (words : List ℕ) (quantum n : ℕ) (t : Tasks) (plays : List Play) (new : Tasks) (motes : List Mote) (left : Mote) (path : TaskPath n t plays new) : Type 0 where
+  turns : TakeTurns words quantum (turns_of n t) left motes (stints_of n t plays new path) (turns_of n new) (left_at_end n t plays new path left) (motes_behind n t plays new path motes)
+  held : image_of (layout_of (length words)) new.kernel.mote.flash.words ≡ words
+  counts : new.kernel.quantum ≡ quantum
+  spares : new.pages ≤ (layout_of (length words)).pool_pages → IsSpared t.kernel.mote.flash new.kernel.mote.flash
+  are : AreLeft new (motes_behind n t plays new path motes) (left_at_end n t plays new path left)
+
+have_turned : (words : List ℕ) (quantum count n : ℕ) (t : Tasks) (plays : List Play) (new : Tasks) (motes : List Mote) (left : Mote) → length words ≡ 4096 * count → length t.tasks ≡ count
+    → (path : TaskPath n t plays new) → AreLeft t motes left → AllAsked t motes → image_of (layout_of (length words)) left.flash.words ≡ words → t.kernel.quantum ≡ quantum
+    → HaveTurned words quantum n t plays new motes left path
+have_turned words quantum count n t [] new motes left size long is are asked held counts =
+    let image : Memory → List ℕ = λ f. image_of (layout_of (length words)) f.words in
+    record {
+      turns = (ap (turns_of n) is, refl, refl);
+      held = ap (λ (u : Tasks). image u.kernel.mote.flash) (sym is) ∙ ap image are.shares.flash ∙ held;
+      counts = ap (λ (u : Tasks). u.kernel.quantum) (sym is) ∙ counts;
+      spares = λ fits. subst (λ (u : Tasks). IsSpared t.kernel.mote.flash u.kernel.mote.flash) is (spares_self t.kernel.mote.flash);
+      are = subst (λ u. AreLeft u motes left) is are;
+    }
+have_turned words quantum count n t (play ∷ plays) new motes left size long (mid, one, rest) are asked held counts =
+    let had = are.each t.running one.task one.here in
     let laid = one.sound.layout ∙ ap (λ k. layout_of (4096 * k)) long ∙ ap layout_of (sym size) in
-    let here = ap (λ (f : Memory). image_of (layout_of (length words)) f.words) are.shares.flash ∙ held in
-    let done = follow_play words quantum n t mid play one laid here counts in
+    let image : Memory → List ℕ = λ f. image_of (layout_of (length words)) f.words in
+    let holds : Holds words quantum (state_of (machine_of t t.running one.task)) =
+    record { laid = laid; held = ap (λ (m : Mote). image m.flash) (mote_before n t mid play one) ∙ ap image are.shares.flash ∙ held; counts = counts } in
+    let before = asked_before n t mid play motes left one are asked in
+    let done = follow_play words quantum n t mid play one holds in
+    let y = machine_of t t.running one.task in
+    let m = one.mid.kernel.mote in
     let next = left_behind n t mid play motes left one are in
-    spares_on t.kernel.mote.flash one.mid.kernel.mote.flash new.kernel.mote.flash
-    (play_spares words quantum n t mid play one laid here counts (omega (arith, fits, pages_path n mid plays new rest, pages_play n t mid play one)))
-    (subst (λ (f : Memory). IsSpared f new.kernel.mote.flash) next.shares.flash
-    (path_spares words quantum count n mid plays new (slice_set motes t.running one.mid.kernel.mote) one.mid.kernel.mote size (path_long n t (play ∷ []) mid (mid, one, refl) ∙ long) rest next
-    done.held
-    (on_quantum play.changes one.mid mid one.behind ∙ done.counts) fits))
+    let later = have_turned words quantum count n mid plays new (slice_set motes t.running m) m size (path_long n t (play ∷ []) mid (mid, one, refl) ∙ long) rest next
+    (asked_behind n t mid play motes left one are asked) done.held (on_quantum play.changes one.mid mid one.behind ∙ done.counts) in
+    record {
+      turns = (
+        player_of n t t.running one.task,
+        had.own,
+        t.kernel.mote,
+        m,
+        player_here n t t.running one.task one.here,
+        ap flat_end_of one.going,
+        refl,
+        had.there,
+        comes_back left had.own t.kernel.mote are.shares (is_here t one.task had.own had.held),
+        stands_before n t mid play one,
+        subst (IsBetween quantum (flat_of y)) (mote_before n t mid play one) (between_held words quantum (λ k. flat_of y) 0 y (holds, stands_here n t mid play one, before)),
+        tried_acts words quantum n t mid play one holds before,
+        sym (lines_of_acts (state_of y) play.moves (state_of (machine_of one.mid t.running one.next)) one.tried.goes.walk) ∙ one.tried.goes.told ∙ ap lines_told one.told,
+        done.follow,
+        subst (λ (u : Turns). TakeTurns words quantum u m (slice_set motes t.running m) (stints_of n mid plays new rest) (turns_of n new) (left_at_end n mid plays new rest m)
+            (motes_behind n mid plays new rest (slice_set motes t.running m))) one.in_turn later.turns,
+      );
+      held = later.held;
+      counts = later.counts;
+      spares = λ fits. spares_on t.kernel.mote.flash m.flash new.kernel.mote.flash
+          (play_spares words quantum n t mid play one holds (omega (arith, fits, pages_path n mid plays new rest, pages_play n t mid play one)))
+          (subst (λ (f : Memory). IsSpared f new.kernel.mote.flash) next.shares.flash (later.spares fits));
+      are = later.are;
+    }
 
 -- What stands in flash. -----------------------------------------------------------------------------------
 
@@ -420,10 +374,7 @@ are_within t sound =
     let same : (machine_of t t.running runs.0).kernel.mote.flash.ops ≡ t.kernel.mote.flash.ops = ap (λ o. (mote_for t.kernel.mote o).flash.ops) (its.running refl) in
     let others = others_arrived t.tasks t.running runs.0 runs.1 in
     let own = sum_has arrivals_of t.tasks t.running runs.0 runs.1 in
-    record {
-      pages = omega (arith, bounded.pages, others, own);
-      ops = omega (arith, bounded.ops, same, others, own);
-    }
+    record { pages = omega (arith, bounded.pages, others, own); ops = omega (arith, bounded.ops, same, others, own) }
 
 -- Where a program stands. ---------------------------------------------------------------------------------
 
@@ -460,6 +411,12 @@ stands_left t motes left i task s sound are there same =
     let paged = paged_back has.own m.kernel.mote back has.size (sound.each i task there).sound.order.paged in
     has_state m.kernel has.own m.at m.steps m.crossings s paged (sym (back.program m.kernel m.at m.steps m.crossings) ∙ same)
 
+-- .. and has as many slots
+slots_left : (n : ℕ) (t : Tasks) (motes : List Mote) (left : Mote) (i : ℕ) (task : Task) (p : Player) → AreSound t → (are : AreLeft t motes left) → (there : slice_get t.tasks i ≡ Some task)
+    → player_of n t i task ≡ p → length (are.each i task there).own.swap ≡ p.program.page_limit
+slots_left n t motes left i task p sound are there is =
+    ap (λ (l : List (List ℕ)). length l) (sym (has_back t motes i task sound there (are.each i task there)).swap) ∙ ap (λ (q : Player). q.program.page_limit) is
+
 -- From boot. ----------------------------------------------------------------------------------------------
 
 waiting_none : (f : Task → ℕ) (task : ℕ) (scripts : List Schedule) (quantum slots : ℕ) → ((k : ℕ) (parked : Option Parked) → f (at_start k parked) ≡ 0)
@@ -482,19 +439,11 @@ tasks_at_boot asked scripts = start_by (tasks_request_of asked) scripts
 
 boots : (asked : AskedTasks) (first : Schedule) (others : List Schedule) → length others + 1 ≡ asked.count → events_of asked 0 ≡ first.events
     → IsBoot (words_of asked) [] (events_of asked 0) asked.quantum asked.slots (tasks_at_boot asked (first ∷ others)).kernel.mote
-boots asked first others long events =
-    let Boots : ℕ → Type 0 = λ k. IsBoot (task_words k asked.image) [] (events_of asked 0) asked.quantum asked.slots
-    (mote_at_boot (task_words (length others + 1) asked.image) first asked.quantum asked.slots) in
-    let words = task_words (length others + 1) asked.image in
-    subst Boots long (subst (λ e. IsBoot words [] e asked.quantum asked.slots (mote_at_boot words first asked.quantum asked.slots)) (sym events)
-    (is_boot words [] first.events asked.quantum asked.slots))
+boots asked first others long events = rw (← long, events) (is_boot (task_words (length others + 1) asked.image) [] first.events asked.quantum asked.slots)
 
 boots_image : (asked : AskedTasks) (first : Schedule) (others : List Schedule) → length others + 1 ≡ asked.count
     → image_of (layout_of (length (words_of asked))) (tasks_at_boot asked (first ∷ others)).kernel.mote.flash.words ≡ words_of asked
-boots_image asked first others long =
-    let Held : ℕ → Type 0 = λ k. take (length (task_words k asked.image)) (mote_at_boot (task_words (length others + 1) asked.image) first asked.quantum asked.slots).flash.words
-    ≡ task_words k asked.image in
-    subst Held long (loaded_image (task_words (length others + 1) asked.image))
+boots_image asked first others long = rw (← long) (loaded_image (task_words (length others + 1) asked.image))
 
 -- each task's own mote there
 own_waiting : (scripts : List Schedule) (quantum slots k : ℕ) (m : Mote) → slice_get (waiting_motes scripts quantum slots) k ≡ Some m
@@ -515,11 +464,9 @@ at_rest m zero_pc = ap (λ pc. (pc == 0) || nat_le 0xF000 pc) zero_pc
 
 -- how a task ended, in the reader's words
 same_end : (end : Option TaskEnd) → option_map task_end end ≡ flat_end_of end
-same_end None = refl
 same_end (Some task_ends.Spent) = refl
-same_end (Some (task_ends.Wild pc)) = refl
-same_end (Some (task_ends.Read pc a)) = refl
-same_end (Some (task_ends.Stopped stop)) = refl
+same_end (Some end) = refl
+same_end None = refl
 
 -- Each player is a task. ----------------------------------------------------------------------------------
 
@@ -559,10 +506,8 @@ left_if t broken motes left are = record {
 -- All of it. ----------------------------------------------------------------------------------------------
 
 pub have_stints : (asked : AskedTasks) (scripts : List Schedule) (t last : Tasks) (plays : List Play) (broken : Bool) (to : Turns) → asked.scripts ≡ scripts → length asked.scripts ≡ asked.count
-    → 1 ≤ asked.count
-    → AreSound (tasks_at_boot asked asked.scripts) → turns_of asked.steps (tasks_at_boot asked asked.scripts) ≡ reset_of asked → TaskPath asked.steps (tasks_at_boot asked asked.scripts) plays last
-    → t ≡ counted last broken → turns_of asked.steps last ≡ to
-    → AreSound t → LeadThere asked to t
+    → 1 ≤ asked.count → AreSound (tasks_at_boot asked asked.scripts) → turns_of asked.steps (tasks_at_boot asked asked.scripts) ≡ reset_of asked
+    → TaskPath asked.steps (tasks_at_boot asked asked.scripts) plays last → t ≡ counted last broken → turns_of asked.steps last ≡ to → AreSound t → LeadThere asked to t
 have_stints asked [] t last plays broken to is long some sound_boot reset path counts leads sound = absurd (omega (arith, ap length is, long, some))
 have_stints asked (first ∷ others) t last plays broken to is long some sound_boot reset path counts leads sound =
     let n = asked.steps in
@@ -577,7 +522,6 @@ have_stints asked (first ∷ others) t last plays broken to is long some sound_b
     let left = left_at_end n booted plays last way booted.kernel.mote in
     let behind = motes_behind n booted plays last way motes in
     let u = counted last broken in
-    let are_last : AreLeft u behind left = left_if last broken behind left (left_counted last behind left (left_last n booted plays last motes booted.kernel.mote way are)) in
     let sound_last : AreSound u = subst AreSound counts sound in
     let size : length asked.scripts ≡ length (first ∷ others) = ap length is in
     let count : length others + 1 ≡ asked.count = omega (arith, size, long) in
@@ -585,18 +529,18 @@ have_stints asked (first ∷ others) t last plays broken to is long some sound_b
     let none : (f : Task → ℕ) → ((k : ℕ) (parked : Option Parked) → f (at_start k parked) ≡ 0) → sum_by f booted.tasks ≡ 0 =
     λ f zero_at. omega (arith, sum_by-cons f (at_start 0 None) (waiting_from 1 others asked.quantum asked.slots), zero_at 0 None, waiting_none f 1 others asked.quantum asked.slots zero_at) in
     let words_long : length (words_of asked) ≡ 4096 * asked.count = length-map-range_with_len (word asked.image) 0 (4096 * asked.count) in
-    let last_long : length t.tasks ≡ asked.count = ap (λ (z : Tasks). length z.tasks) counts ∙ path_long n booted plays last way ∙ tasks_long in
-    let laid_last : t.kernel.layout ≡ layout_of (length (words_of asked)) = sound.layout ∙ ap (λ k. layout_of (4096 * k)) last_long ∙ ap layout_of (sym words_long) in
-    let stays = kept_path (words_of asked) asked.quantum asked.count n booted plays last motes booted.kernel.mote words_long tasks_long way are (boots_image asked first others count) refl in
-    let quantum : t.kernel.quantum ≡ asked.quantum = ap (λ (z : Tasks). z.kernel.quantum) counts ∙ stays.0 in
-    record {
+    let laid_last : last.kernel.layout ≡ layout_of (length (words_of asked)) =
+    sound_last.layout ∙ ap (λ k. layout_of (4096 * k)) (path_long n booted plays last way ∙ tasks_long) ∙ ap layout_of (sym words_long) in
+    let turned = have_turned (words_of asked) asked.quantum asked.count n booted plays last motes booted.kernel.mote words_long tasks_long way are asked_first
+    (boots_image asked first others count) refl in
+    let are_last : AreLeft u behind left = left_if last broken behind left (left_counted last behind left turned.are) in
+    subst (LeadThere asked to) (sym counts) (record {
       stints = stints_of n booted plays last way;
       first = booted.kernel.mote;
       begins = boots asked first others count (ap (λ (s : List Schedule). (slice_index_or {A = Schedule} s 0 (record { events = []; failing = [] })).events) is);
       motes = motes;
       first_is = refl;
-      own = λ task m there. subst (λ (l : List Schedule). IsNew (slice_index_or {A = Schedule} l task (record { events = []; failing = [] })).events asked.quantum asked.slots m) (sym is)
-          (own_at_boot asked.image first others asked.quantum asked.slots task m there);
+      own = λ task m there. rw is (own_at_boot asked.image first others asked.quantum asked.slots task m there);
       starts = λ task p there.
           let one = is_played n booted (reset_of asked) task p at_reset there in
           let has = are.each task one.its one.there in
@@ -604,8 +548,7 @@ have_stints asked (first ∷ others) t last plays broken to is long some sound_b
       last = behind;
       left = left;
       turns = subst (λ (to : Turns). TakeTurns (words_of asked) asked.quantum (reset_of asked) booted.kernel.mote motes (stints_of n booted plays last way) to left behind) leads
-          (subst (λ (from : Turns). TakeTurns (words_of asked) asked.quantum from booted.kernel.mote motes (stints_of n booted plays last way) (turns_of n last) left behind) at_reset
-          (take_turns (words_of asked) asked.quantum asked.count n booted plays last motes booted.kernel.mote words_long tasks_long way are asked_first (boots_image asked first others count) refl));
+          (subst (λ (from : Turns). TakeTurns (words_of asked) asked.quantum from booted.kernel.mote motes (stints_of n booted plays last way) (turns_of n last) left behind) at_reset turned.turns);
       ends = λ task p there.
           let one = is_played n last to task p leads there in
           let its = one.its in
@@ -615,10 +558,10 @@ have_stints asked (first ∷ others) t last plays broken to is long some sound_b
             own = has.own;
             its = its;
             own_is = has.there;
-            its_is = ap (λ (z : Tasks). slice_get z.tasks task) counts ∙ one.there;
+            its_is = one.there;
             state = stands_left u behind left task its p.moment.now sound_last are_last one.there (ap (λ (q : Player). q.moment.now) one.is);
-            slots = ap (λ (l : List (List ℕ)). length l) (sym (has_back u behind task its sound_last one.there has).swap) ∙ ap (λ (q : Player). q.program.page_limit) one.is;
-            part = subst (λ (z : Tasks). HasPart left has.own z.kernel.mote (eqb task z.running) its) (sym counts) (has_part u left task its has.own sound_last are_last.shares one.there has.held);
+            slots = slots_left n u behind left task its p sound_last are_last one.there one.is;
+            part = has_part u left task its has.own sound_last are_last.shares one.there has.held;
             end = same_end its.end ∙ ap (λ (q : Player). q.end) one.is;
             due = ap (λ (q : Player). q.moment.due) one.is;
             pc = ap (λ (q : Player). q.moment.now.cpu.pc) one.is;
@@ -627,30 +570,26 @@ have_stints asked (first ∷ others) t last plays broken to is long some sound_b
             natural = counts_own.natural;
             entries = counts_own.entries;
           };
-      runs = ap (λ (z : Tasks). z.running) counts ∙ ap (λ (s : Turns). s.running) leads;
-      many = ap (λ (z : Tasks). length z.tasks) counts ∙ sym (players_length n last 0 last.tasks) ∙ ap (λ (s : Turns). length s.players) leads;
+      runs = ap (λ (s : Turns). s.running) leads;
+      many = sym (players_length n last 0 last.tasks) ∙ ap (λ (s : Turns). length s.players) leads;
       layout = laid_last;
-      quantum_is = quantum;
-      switched = ap (λ (z : Tasks). z.switches) counts ∙ ap (λ (s : Turns). s.switches) leads;
-      switches = ap (λ (z : Tasks). z.switches) counts ∙ changes_path n booted plays last way ∙ zero-add (_) ∙ ap (changes_from 0 (stints_of n booted plays last way))
-          (ap (λ (s : Turns). s.running) leads);
-      natural_is = ap (λ (z : Tasks). z.natural) counts ∙ sum_path (λ task. task.natural) (λ stint. steps_in stint.acts) n booted plays last natural_counts way
+      quantum_is = turned.counts;
+      switched = ap (λ (s : Turns). s.switches) leads;
+      switches = changes_path n booted plays last way ∙ zero-add (_) ∙ ap (changes_from 0 (stints_of n booted plays last way)) (ap (λ (s : Turns). s.running) leads);
+      natural_is = sum_path (λ task. task.natural) (λ stint. steps_in stint.acts) n booted plays last natural_counts way
           ∙ ap (λ k. k + sum_by (λ (stint : Stint). steps_in stint.acts) (stints_of n booted plays last way)) (none (λ task. task.natural) (λ k parked. refl)) ∙ zero-add (_);
-      entries_is = ap (λ (z : Tasks). z.entries) counts ∙ sum_path (λ task. task.entries) (λ stint. services_in stint.acts) n booted plays last entries_counts way
+      entries_is = sum_path (λ task. task.entries) (λ stint. services_in stint.acts) n booted plays last entries_counts way
           ∙ ap (λ k. k + sum_by (λ (stint : Stint). services_in stint.acts) (stints_of n booted plays last way)) (none (λ task. task.entries) (λ k parked. refl)) ∙ zero-add (_);
-      pages_is = ap (λ (z : Tasks). z.pages) counts ∙ pages_path n booted plays last way ∙ zero-add (_);
+      pages_is = pages_path n booted plays last way ∙ zero-add (_);
       few = λ task front between back is none.
-          let bound : steps_in between ≤ bound_per_crossing * t.kernel.quantum =
-          few_from_boot asked.image first others asked.quantum asked.slots n plays last task (bound_per_crossing * t.kernel.quantum) way
-          (λ its there. (sound.each task its (ap (λ (z : Tasks). slice_get z.tasks task) counts ∙ there)).sound.bounded.moves.most) front between back is none in
-          subst (λ q. steps_in between ≤ 5120 * q) quantum bound;
-      most_pages = (are_within t sound).pages;
-      most_operations = (are_within t sound).ops;
+          let bound : steps_in between ≤ bound_per_crossing * last.kernel.quantum =
+          few_from_boot asked.image first others asked.quantum asked.slots n plays last task (bound_per_crossing * last.kernel.quantum) way
+          (λ its there. (sound_last.each task its there).sound.bounded.moves.most) front between back is none in
+          subst (λ q. steps_in between ≤ 5120 * q) turned.counts bound;
+      most_pages = (are_within u sound_last).pages;
+      most_operations = (are_within u sound_last).ops;
       flash = record {
-        wear = subst (λ (z : Tasks). z.pages ≤ pool_size (words_of asked) → IsSpared booted.kernel.mote.flash z.kernel.mote.flash) (sym counts)
-            (λ fits. path_spares (words_of asked) asked.quantum asked.count n booted plays last motes booted.kernel.mote words_long tasks_long way are
-            (boots_image asked first others count) refl fits);
-        faithful = faithful_left (words_of asked) t sound laid_last
-            (ap (λ (z : Tasks). image_of (layout_of (length (words_of asked))) z.kernel.mote.flash.words) counts ∙ stays.1);
+        wear = turned.spares;
+        faithful = faithful_left (words_of asked) u sound_last laid_last turned.held;
       };
-    }
+    })

@@ -111,8 +111,7 @@ by_words Tells words before now job reads tells (inr none) = let own = reading w
 
 -- a line, or want of memory
 line_how : (words : List (List ℕ)) (exit : Exit) (status faults : ℕ) (taken : List ℕ) (call : Call words exit status faults taken) (own : Status) (line : List ℕ) (job : Job)
-    → OrNone (jobs.Print own (record { items = line })) job
-    → Does job call.sink call.sink' exit → IsSoThen faults (λ sink. IsSaid sink (number_of own) line status taken exit.kept exit.tasks)
+    → OrNone (jobs.Print own (record { items = line })) job → Does job call.sink call.sink' exit → IsSoThen faults (λ sink. IsSaid sink (number_of own) line status taken exit.kept exit.tasks)
 line_how words exit status faults taken call own line job (inl is) done =
     let told = subst (λ j. Does j call.sink call.sink' exit) is done in
     so_is words exit status faults taken call (λ sink. IsSaid sink (number_of own) line status taken exit.kept exit.tasks)
@@ -124,15 +123,13 @@ line_how words exit status faults taken call own line job (inr is) done =
     (told_how words exit status faults taken call _ _ none.0.0))
 
 pub fault_told : (words : List (List ℕ)) (exit : Exit) (status faults : ℕ) (taken : List ℕ) (call : Call words exit status faults taken) (text : List ℕ) → IsBroken text call.source call.source'
-    → length text ≤ 2097152
-    → ReadsText words → IsSoThen faults (λ sink. IsSaid sink 5 read_fault_line status taken exit.kept exit.tasks)
+    → length text ≤ 2097152 → ReadsText words → IsSoThen faults (λ sink. IsSaid sink 5 read_fault_line status taken exit.kept exit.tasks)
 fault_told words exit status faults taken call text broken short reads =
     line_how words exit status faults taken call statuses.ReadFault read_fault_line call.answer.job
     (by_words (OrNone read_fault) words call.source call.source' call.answer.job reads (short_text call.source call.source' text call.answer.job broken short) call.answer.asked) call.answer.done
 
 pub length_told : (words : List (List ℕ)) (exit : Exit) (status faults : ℕ) (taken : List ℕ) (call : Call words exit status faults taken) (text : List ℕ) → IsBroken text call.source call.source'
-    → 2097152 < length text
-    → ReadsText words → IsSoThen faults (λ sink. IsSaid sink 3 (codes "input too long\n") status taken exit.kept exit.tasks)
+    → 2097152 < length text → ReadsText words → IsSoThen faults (λ sink. IsSaid sink 3 (codes "input too long\n") status taken exit.kept exit.tasks)
 length_told words exit status faults taken call text broken long reads =
     line_how words exit status faults taken call statuses.BadInput (codes "input too long\n") call.answer.job
     (by_words (OrNone too_long) words call.source call.source' call.answer.job reads (long_text call.source call.source' text call.answer.job broken long) call.answer.asked) call.answer.done

@@ -5,7 +5,7 @@ use Rattle.std.specs.Prelude.{◌==◌, ◌&&◌, nat_lt, slice_get, slice_set, 
 use Rattle.std.specs.List.{range_with_len, find}
 use Rattle.std.proofs.Math.Nat.{div-add-mod', mod-lt, mod-eq_of_lt, mod_self, suc-mod}
 use Rattle.std.proofs.Math.Numerals.{suc-eq-add-one}
-use Rattle.std.proofs.lemmas.List.{append-nil}
+use Rattle.std.proofs.lemmas.List.{append-nil, length-set}
 use Rattle.std.proofs.lemmas.Option.{slice_get_within}
 use Rattle.std.proofs.lemmas.Bool.{cases_eq, cases_lt}
 use Rattle.std.proofs.lemmas.Bool.Decides.{nat_tests}
@@ -19,9 +19,8 @@ use Rattle.task_input.specs.Images.{task_words}
 use Rattle.task_turns.proofs.Ending.{ended_at}
 use Rattle.task_turns.proofs.Isolation.{by_change, set_here, set_elsewhere}
 use Rattle.task_turns.proofs.OwnPrograms.{some_player}
-use Rattle.theorem_reader.specs.Tasks.{AskedTasks, reset_of}
+use Rattle.theorem_reader.specs.Tasks.{reset_of}
 use Rattle.theorem_reader.specs.Waiting.{turns_after, crossings_of, WaitsForATurnOfEach}
-use Rattle.theorem_reader.proofs.TakingTurns.{length_set}
 
 -- The next in turn. --------------------------------------------------------------------------------------
 
@@ -69,8 +68,7 @@ nearer f count task r passes below inside apart =
     let P : ℕ → Type 0 = λ k. distance count task k < distance count task r in
     elim (cases_lt task r) [
       | inl less ↦
-          let behind : Found P (find f (range_with_len 0 r)) =
-          subst (λ xs. Found P (find f xs)) (append-nil (range_with_len 0 r))
+          let behind : Found P (find f (range_with_len 0 r)) = rw (append-nil (range_with_len 0 r)) at
           (found_upto P f 0 r task [] passes (omega arith) (omega (arith, less)) (λ k low high. omega (arith, far_behind count task r less, far_before count task k high, high, less, inside))) in
           found_in P f (r + 1) (count - (r + 1)) (range_with_len 0 r)
           (λ k low high. let past : task < k = omega (arith, low, less) in omega (arith, far_behind count task r less, far_behind count task k past, low, high, inside)) behind
@@ -78,9 +76,6 @@ nearer f count task r passes below inside apart =
           found_upto P f (r + 1) (count - (r + 1)) task (range_with_len 0 r) passes (omega (arith, most, apart)) (omega (arith, below, most, apart))
           (λ k low high. omega (arith, far_before count task r most, far_before count task k high, low, high))
     ]
-
-goes_in : (t : Turns) (task : ℕ) (w : Player) → slice_get t.players task ≡ Some w → w.end ≡ None → not (has_ended (ends_of t) task) ≡ true
-goes_in t task w there going = ap not (ended_at t task w there ∙ ap is_some going)
 
 -- One try. -----------------------------------------------------------------------------------------------
 
@@ -185,11 +180,6 @@ no_tries : (t : Turns) → (tries 0 t).turns ≡ t
 unfolding tries
 no_tries t = refl
 
-more_by : (n k : ℕ) (t : Turns) → TryWay t → ((next : Turns) → (tries (n + k) next).turns ≡ (tries k (tries n next).turns).turns)
-    → (tries (suc (n + k)) t).turns ≡ (tries k (tries (suc n) t).turns).turns
-more_by n k t (Still same) rest = same (suc (n + k)) ∙ sym (same k) ∙ ap (λ (z : Turns). (tries k z).turns) (sym (same (suc n)))
-more_by n k t (Goes p there first) rest = first (n + k) ∙ rest (once t p).turns ∙ ap (λ (z : Turns). (tries k z).turns) (sym (first n))
-
 -- so many tries and more
 more_tries : (n k : ℕ) (t : Turns) → (tries (n + k) t).turns ≡ (tries k (tries n t).turns).turns
 more_tries zero k t =
@@ -197,7 +187,10 @@ more_tries zero k t =
     ap (λ j. (tries j t).turns) none ∙ ap (λ (z : Turns). (tries k z).turns) (sym (no_tries t))
 more_tries (suc n) k t =
     let one : suc n + k ≡ suc (n + k) = omega arith in
-    ap (λ j. (tries j t).turns) one ∙ more_by n k t (way_of t) (more_tries n k)
+    ap (λ j. (tries j t).turns) one ∙ elim (way_of t) [
+      | Still same ↦ same (suc (n + k)) ∙ sym (same k) ∙ ap (λ (z : Turns). (tries k z).turns) (sym (same (suc n)))
+      | Goes p there first ↦ first (n + k) ∙ more_tries n k (once t p).turns ∙ ap (λ (z : Turns). (tries k z).turns) (sym (first n))
+    ]
 
 -- The quantum of each. -----------------------------------------------------------------------------------
 
@@ -214,15 +207,12 @@ have_next quantum t p next there made have = λ i x is. elim (cases_eq i t.runni
   | inr apart ↦ have i x (sym (ap (λ l. slice_get l i) (players_made t p next made) ∙ set_elsewhere t.players i t.running made.q apart) ∙ is)
 ]
 
-have_by : (quantum n : ℕ) (t : Turns) → TryWay t → HaveQuantum quantum t → ((next : Turns) → HaveQuantum quantum next → HaveQuantum quantum (tries n next).turns)
-    → HaveQuantum quantum (tries (suc n) t).turns
-have_by quantum n t (Still same) have rest = subst (HaveQuantum quantum) (sym (same (suc n))) have
-have_by quantum n t (Goes p there first) have rest =
-    subst (HaveQuantum quantum) (sym (first n)) (rest (once t p).turns (have_next quantum t p (once t p).turns there (made_once t p) have))
-
 have_tried : (quantum n : ℕ) (t : Turns) → HaveQuantum quantum t → HaveQuantum quantum (tries n t).turns
 have_tried quantum zero t have = subst (HaveQuantum quantum) (sym (no_tries t)) have
-have_tried quantum (suc n) t have = have_by quantum n t (way_of t) have (have_tried quantum n)
+have_tried quantum (suc n) t have = elim (way_of t) [
+  | Still same ↦ subst (HaveQuantum quantum) (sym (same (suc n))) have
+  | Goes p there first ↦ subst (HaveQuantum quantum) (sym (first n)) (have_tried quantum n (once t p).turns (have_next quantum t p (once t p).turns there (made_once t p) have))
+]
 
 -- The crossings while one waits. -------------------------------------------------------------------------
 
@@ -282,11 +272,10 @@ record Nearer (quantum count task : ℕ) (t : Turns) (p q : Player) (next : Turn
 changes : (quantum count task : ℕ) (w p q : Player) (t : Turns) → slice_get t.players t.running ≡ Some p → task ≢ t.running → w.end ≡ None → Among quantum count task w t
     → Found (λ k. distance count task k < distance count task t.running) (next_in t.running (length (with_player t q).players) (ends_of (with_player t q)))
 changes quantum count task w p q t there apart going among =
-    let long : length (with_player t q).players ≡ count = length_set t.players t.running q ∙ among.few in
+    let long : length (with_player t q).players ≡ count = length-set t.players t.running q ∙ among.few in
     let f : ℕ → Bool = λ i. not (has_ended (ends_of (with_player t q)) i) in
     let still : slice_get (with_player t q).players task ≡ Some w = set_elsewhere t.players task t.running q apart ∙ among.there in
-    subst (λ n. Found (λ k. distance count task k < distance count task t.running) (find f (others t.running n))) (sym long)
-    (nearer f count task t.running (goes_in (with_player t q) task w still going) (omega (arith, slice_get_within t.players task w among.there, among.few))
+    rw long (nearer f count task t.running (ap not (ended_at (with_player t q) task w still ∙ ap is_some going)) (omega (arith, slice_get_within t.players task w among.there, among.few))
     (omega (arith, slice_get_within t.players t.running p there, among.few)) apart)
 
 nearer_by : (quantum count task : ℕ) (w p : Player) (t next : Turns) → slice_get t.players t.running ≡ Some p → task ≢ t.running → w.end ≡ None → Among quantum count task w t → (made : Made t p next)
@@ -307,7 +296,7 @@ among_next : (quantum count task : ℕ) (w p : Player) (t next : Turns) → slic
 among_next quantum count task w p t next there apart made among =
     let players = players_made t p next made in
     record {
-      few = ap (λ (l : List Player). length l) players ∙ length_set t.players t.running made.q ∙ among.few;
+      few = ap (λ (l : List Player). length l) players ∙ length-set t.players t.running made.q ∙ among.few;
       have = have_next quantum t p next there made among.have;
       there = ap (λ l. slice_get l task) players ∙ set_elsewhere t.players task t.running made.q apart ∙ among.there;
     }
@@ -324,8 +313,7 @@ few_more quantum count task other t next to p q some there one few = elim (cases
       record {
         most = elim one.way [
           | inl stays ↦
-              let short : Short quantum (crossings_in t.players other) (crossings_in next.players other) = subst (λ c. Short quantum c (crossings_in next.players other)) (sym before)
-              (subst (λ c. Short quantum (crossed p) c) (sym after) stays.1) in
+              let short : Short quantum (crossings_in t.players other) (crossings_in next.players other) = rw (before, after) stays.1 in
               omega (arith, few.most, top_short quantum (crossings_in t.players other) (crossings_in next.players other) some short)
           | inr changes ↦ omega (arith, few.beyond (omega (arith, changes.0, far)), before, after, changes.1, mod-lt (crossings_in t.players other) some)
         ];
@@ -348,23 +336,19 @@ few_more quantum count task other t next to p q some there one few = elim (cases
 abbrev NotStepped : (task count : ℕ) → Turns → Type 0
 NotStepped task count t = (k : ℕ) → k < count → (tries k t).turns.running ≢ task
 
-few_by : (quantum count task other n : ℕ) (w : Player) (t : Turns) → 1 ≤ quantum → w.end ≡ None → Among quantum count task w t → NotStepped task (suc n) t → TryWay t
-    → ((next : Turns) → Among quantum count task w next → NotStepped task n next → AreFew quantum count task other next (tries n next).turns)
-    → AreFew quantum count task other t (tries (suc n) t).turns
-few_by quantum count task other n w t some going among waits (Still same) rest = subst (AreFew quantum count task other t) (sym (same (suc n))) (few_here quantum count task other t)
-few_by quantum count task other n w t some going among waits (Goes p there first) rest =
-    let made = made_once t p in
-    let apart : task ≢ t.running = λ is. waits 0 (omega arith) (ap (λ (z : Turns). z.running) (no_tries t) ∙ sym is) in
-    let later : NotStepped task n (once t p).turns = λ k less is. waits (suc k) (omega (arith, less)) (ap (λ (z : Turns). z.running) (first k) ∙ is) in
-    subst (AreFew quantum count task other t) (sym (first n))
-    (few_more quantum count task other t (once t p).turns (tries n (once t p).turns).turns p made.q some there (nearer_by quantum count task w p t (once t p).turns there apart going among made)
-    (rest (once t p).turns (among_next quantum count task w p t (once t p).turns there apart made among) later))
-
 few_tried : (quantum count task other n : ℕ) (w : Player) (t : Turns) → 1 ≤ quantum → w.end ≡ None → Among quantum count task w t → NotStepped task n t
     → AreFew quantum count task other t (tries n t).turns
 few_tried quantum count task other zero w t some going among waits = subst (AreFew quantum count task other t) (sym (no_tries t)) (few_here quantum count task other t)
-few_tried quantum count task other (suc n) w t some going among waits = few_by quantum count task other n w t some going among waits (way_of t)
-    (λ next among' waits'. few_tried quantum count task other n w next some going among' waits')
+few_tried quantum count task other (suc n) w t some going among waits = elim (way_of t) [
+  | Still same ↦ subst (AreFew quantum count task other t) (sym (same (suc n))) (few_here quantum count task other t)
+  | Goes p there first ↦
+      let made = made_once t p in
+      let apart : task ≢ t.running = λ is. waits 0 (omega arith) (ap (λ (z : Turns). z.running) (no_tries t) ∙ sym is) in
+      let later : NotStepped task n (once t p).turns = λ k less is. waits (suc k) (omega (arith, less)) (ap (λ (z : Turns). z.running) (first k) ∙ is) in
+      subst (AreFew quantum count task other t) (sym (first n))
+      (few_more quantum count task other t (once t p).turns (tries n (once t p).turns).turns p made.q some there (nearer_by quantum count task w p t (once t p).turns there apart going among made)
+      (few_tried quantum count task other n w (once t p).turns some going (among_next quantum count task w p t (once t p).turns there apart made among) later))
+]
 
 -- From reset. --------------------------------------------------------------------------------------------
 
@@ -374,15 +358,13 @@ reset_quantum words k [] quantum slots n i p is = absurd (cc)
 reset_quantum words k (script ∷ scripts) quantum slots n zero p is = sym (ap (λ (q : Player). q.program.quantum) (some_player _ p is))
 reset_quantum words k (script ∷ scripts) quantum slots n (suc i) p is = reset_quantum words (k + 1) scripts quantum slots n i p is
 
-have_after : (asked : AskedTasks) (from : ℕ) → HaveQuantum asked.quantum (turns_after asked from)
-have_after asked from =
-    have_tried asked.quantum from (reset_of asked) (λ i p is. reset_quantum (task_words (length asked.scripts) asked.image) 0 asked.scripts asked.quantum asked.slots asked.steps i p is)
-
 pub waits_for_a_turn_of_each : WaitsForATurnOfEach
 waits_for_a_turn_of_each asked some task from count waits other =
     let t = turns_after asked from in
     let more : (k : ℕ) → turns_after asked (from + k) ≡ (tries k t).turns = λ k. more_tries from k (reset_of asked) in
     let kept : NotStepped task count t = λ k less is. waits.waits k less (ap (λ (z : Turns). z.running) (more k) ∙ is) in
-    let among : Among asked.quantum (length t.players) task waits.player t = record { few = refl; have = have_after asked from; there = waits.is } in
+    let at_reset : HaveQuantum asked.quantum (reset_of asked) =
+    λ i p is. reset_quantum (task_words (length asked.scripts) asked.image) 0 asked.scripts asked.quantum asked.slots asked.steps i p is in
+    let among : Among asked.quantum (length t.players) task waits.player t = record { few = refl; have = have_tried asked.quantum from (reset_of asked) at_reset; there = waits.is } in
     let few = few_tried asked.quantum (length t.players) task other count waits.player t some waits.going among kept in
     omega (arith, few.most, ap (λ (z : Turns). crossings_of z other) (more count), div-add-mod' (crossings_of t other) asked.quantum, mod-lt (crossings_of t other) some)

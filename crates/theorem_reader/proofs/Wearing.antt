@@ -7,7 +7,7 @@ use Rattle.std.proofs.lemmas.List.{get_or-set_other}
 use Rattle.flash_words.specs.declared.layout.Layout.{Layout}
 use Rattle.flash_words.specs.Layouts.{image_of, IsRight}
 use Rattle.flash_words.specs.Memory.{Memory}
-use Rattle.flash_words.specs.Operations.{fails, left_by_refusal, programmed_page}
+use Rattle.flash_words.specs.Operations.{programmed_page}
 use Rattle.flash_words.specs.Pages.{word_at, page_of, raised}
 use Rattle.flash_words.proofs.PageLaws.{word_in_page, word_out_of_page, page_word, length-page_of}
 use Rattle.page_index.specs.Maps.{IsPool, IsFree}
@@ -34,7 +34,8 @@ use Rattle.program_steps.proofs.Arriving.{same_found}
 use Rattle.theorem_reader.specs.Wear.{jumps_in, IsSpared}
 use Rattle.theorem_reader.specs.Pools.{number_where}
 use Rattle.theorem_reader.proofs.Linking.{not_stopped}
-use Rattle.theorem_reader.proofs.Rewriting.{rewriting_erases, beside, erased_more}
+use Rattle.theorem_reader.proofs.StubWords.{one_of_two}
+use Rattle.theorem_reader.proofs.Rewriting.{one_performed, rewriting_erases, beside, erased_more}
 
 -- Jumps among words. --------------------------------------------------------------------------------------
 
@@ -74,11 +75,8 @@ no_jumps words a (suc n) none = omega (arith, none n (omega arith), no_jumps wor
 jump_same : (words words' : List ℕ) (a : ℕ) → word_at words' a ≡ word_at words a → is_jump words a ≤ is_jump words' a
 jump_same words words' a same = let e : is_jump words' a ≡ is_jump words a = ap jump_of same in omega (arith, e)
 
-not_jump : (w : ℕ) → w ≢ 0x940C → jump_of w ≡ 0
-not_jump w other = grind (arith, nat_tests)
-
 jump_other : (words : List ℕ) (a w : ℕ) → word_at words a ≡ w → w ≢ 0x940C → is_jump words a ≡ 0
-jump_other words a w is other = ap jump_of is ∙ not_jump w other
+jump_other words a w is other = let none : jump_of w ≡ 0 = grind (arith, nat_tests) in ap jump_of is ∙ none
 
 -- One flash after another. --------------------------------------------------------------------------------
 
@@ -114,12 +112,10 @@ word_resolved old new s place k is below =
 jump_kept : (old new : Memory) (s place k : ℕ) → StubResolved old new s place → k < 128 → is_jump old.words (128 * (s / 128) + k) ≤ is_jump new.words (128 * (s / 128) + k)
 jump_kept old new s place k is below =
     let a = 128 * (s / 128) + k in
-    elim (cases_eq a s) [
-      | inl same ↦ (let none = jump_other old.words a call_word (ap (word_at old.words) same ∙ is.call) (λ e. omega (arith, e)) in omega (arith, none))
-      | inr apart ↦ elim (cases_eq a (s + 1)) [
-        | inl same ↦ (let none = jump_other old.words a bridge_entry (ap (word_at old.words) same ∙ is.bridge) (λ e. omega (arith, e)) in omega (arith, none))
-        | inr apart' ↦ jump_same old.words new.words a (word_resolved old new s place k is below ∙ word_beside_two old.words s a jump_word place apart apart')
-      ]
+    elim (one_of_two a s) [
+      | inl (inl same) ↦ (let none = jump_other old.words a call_word (ap (word_at old.words) same ∙ is.call) (λ e. omega (arith, e)) in omega (arith, none))
+      | inl (inr same) ↦ (let none = jump_other old.words a bridge_entry (ap (word_at old.words) same ∙ is.bridge) (λ e. omega (arith, e)) in omega (arith, none))
+      | inr apart ↦ jump_same old.words new.words a (word_resolved old new s place k is below ∙ word_beside_two old.words s a jump_word place apart.0 apart.1)
     ]
 
 resolved_spares : (old new : Memory) (s place : ℕ) → StubResolved old new s place → IsSpared old new
@@ -138,9 +134,8 @@ resolved_spares old new s place is page below =
           ∙ first_of_two old.words s jump_word place (omega (arith, is.whole, is.low, is.room)) in
           let now : is_jump new.words (128 * own + s % 128) ≡ 1 = ap jump_of here in
           let more = jumps_more old.words new.words (128 * own) 128 (s % 128) (omega (arith, is.room)) was now (λ k less. jump_kept old new s place k is less) in
-          let once = erased_more old new own erases in
           let There : ℕ → Type 0 = λ p. slice_index new.erases p + jumps_in old.words p ≤ slice_index old.erases p + jumps_in new.words p in
-          subst There (sym same) (omega (arith, more, once))
+          subst There (sym same) (omega (arith, more, (erased_more old new own erases)))
       | inr apart ↦
           let still : slice_index new.erases page ≡ slice_index old.erases page = ap (λ es. slice_index es page) erases
           ∙ get_or-set_other old.erases own page (raised (slice_index old.erases own)) 0 apart in
@@ -154,13 +149,8 @@ resolved_spares old new s place is page below =
 
 pub programmed_is : (m m' : Memory) (again : Bool) (page : ℕ) (words : List ℕ) → perform m (Program again page words ∷ []) ≡ record { memory = m'; stop = None } → m' ≡ programmed_page m page words
 programmed_is m m' again page words performed =
-    let refused : Performed = record { memory = left_by_refusal m page; stop = Some (stop_at m (Program again page words)) } in
-    let done : Performed = record { memory = programmed_page m page words; stop = None } in
-    let Outer : Bool → Type 0 = λ b. (if b then refused else done) ≡ record { memory = m'; stop = None } → m' ≡ programmed_page m page words in
-    (elim (fails m) as Outer [
-      | true ↦ λ is. absurd (let told : Some (stop_at m (Program again page words)) ≡ None = ap (λ (r : Performed). r.stop) is in cc)
-      | false ↦ λ is. sym (ap (λ (r : Performed). r.memory) is)
-    ]) performed
+    one_performed (λ r. r ≡ record { memory = m'; stop = None } → m' ≡ programmed_page m page words) m (Program again page words) []
+    (λ is. absurd (let told : Some (stop_at m (Program again page words)) ≡ None = ap (λ (r : Performed). r.stop) is in cc)) (λ is. sym (ap (λ (r : Performed). r.memory) is)) performed
 
 -- what an arrival leaves before its stub is resolved
 record Landed (old new : Memory) : Type 0 where
@@ -200,8 +190,7 @@ made_lands layout image old new page t place words right code pool free prepared
     }
 
 prepared_lands : (layout : Layout) (old new : Store) (page t : ℕ) (moved : Moved) → IsRight layout → IsFaithful layout (image_of layout old.flash.words) old.flash.words → IsPool layout page
-    → IsFree old.flash.words page
-    → Makes layout old new page t false (Ok moved) → Landed old.flash new.flash
+    → IsFree old.flash.words page → Makes layout old new page t false (Ok moved) → Landed old.flash new.flash
 prepared_lands layout old new page t moved right code pool free (Makes.Made words place prepared done noted is) =
     made_lands layout (image_of layout old.flash.words) old.flash new.flash page t place words right code pool free prepared (programmed_is old.flash new.flash false page words done)
 prepared_lands layout old new page t moved right code pool free (Makes.NotMade words place prepared stop done same is) = absurd (cc)

@@ -4,7 +4,7 @@ use Rattle.flash_dump.specs.Dumps.{IsDump}
 use Rattle.program_steps.specs.Machines.{Machine}
 use Rattle.cli_words.specs.declared.command.Command.TheVariants.{Check}
 use Rattle.cli_words.specs.Commands.{IsCommand}
-use Rattle.theorem_reader.specs.Pools.{pages_where, is_formed, is_linked, IsInPool, AreFaithful}
+use Rattle.theorem_reader.specs.Pools.{pages_where, IsFormed, IsLinked, IsInPool, AreFaithful}
 use Rattle.theorem_reader.specs.Runs.{HasHex}
 use Rattle.theorem_reader.specs.Telling.{Sink, IsTold}
 use Rattle.theorem_reader.specs.Texts.{no_memory}
@@ -22,15 +22,15 @@ used_in image flash = pages_where image (λ page. not (slice_index flash (128 * 
 -- the lowest page that hasn't its form
 pub record IsMisshapen (image flash : List ℕ) (page : ℕ) : Type 0 where
   pub inside : page < 512
-  pub without : ¬ is_formed image flash page
-  pub lower : (other : ℕ) → other < page → is_formed image flash other
+  pub without : ¬ IsFormed image flash page
+  pub lower : (other : ℕ) → other < page → IsFormed image flash other
 
 -- the lowest page of the pool that hasn't its links, where all have their forms
 pub record IsUnlinked (image flash : List ℕ) (page : ℕ) : Type 0 where
-  pub forms : (other : ℕ) → other < 512 → is_formed image flash other
+  pub forms : (other : ℕ) → other < 512 → IsFormed image flash other
   pub inside : IsInPool image page
-  pub without : ¬ is_linked image flash page
-  pub lower : (other : ℕ) → IsInPool image other → other < page → is_linked image flash other
+  pub without : ¬ IsLinked image flash page
+  pub lower : (other : ℕ) → IsInPool image other → other < page → IsLinked image flash other
 
 -- Memory was wanted; or one of three things is so, and that is told. No two of them can be so of one flash. No machine is kept.
 pub data IsChecked (sink : Sink) (image flash : List ℕ) (status : ℕ) (taken : List ℕ) (kept : Option Machine) : Type 0 where

@@ -24,12 +24,12 @@ abbrev pub pages_where : (image : List ℕ) → (is : ℕ → Bool) → ℕ
 pages_where image is = number_where is (pool_from image / 128) (pool_size image)
 
 -- the page's 128 words have their form
-abbrev pub is_formed : (image flash : List ℕ) → ℕ → Type 0
-is_formed image flash page = HasForm (layout_of (length image)) image page (take 128 (drop (128 * page) flash))
+abbrev pub IsFormed : (image flash : List ℕ) → ℕ → Type 0
+IsFormed image flash page = HasForm (layout_of (length image)) image page (take 128 (drop (128 * page) flash))
 
 -- what the page owes to the other pages of the pool
-abbrev pub is_linked : (image flash : List ℕ) → ℕ → Type 0
-is_linked image flash page = HasLinks (layout_of (length image)) image flash page
+abbrev pub IsLinked : (image flash : List ℕ) → ℕ → Type 0
+IsLinked image flash page = HasLinks (layout_of (length image)) image flash page
 
 -- the page is in the pool, which begins at page 128 or 192 and ends at page 479
 pub record IsInPool (image : List ℕ) (page : ℕ) : Type 0 where
@@ -39,8 +39,8 @@ pub record IsInPool (image : List ℕ) (page : ℕ) : Type 0 where
 -- every page has its form, and every page of the pool its links; flash holds the image, erased words from there to the pool, and
 -- RET from 0xF000 on
 pub record AreFaithful (image flash : List ℕ) : Type 0 where
-  pub forms : (page : ℕ) → page < 512 → is_formed image flash page
-  pub links : (page : ℕ) → IsInPool image page → is_linked image flash page
+  pub forms : (page : ℕ) → page < 512 → IsFormed image flash page
+  pub links : (page : ℕ) → IsInPool image page → IsLinked image flash page
   pub held : take (length image) flash ≡ image
   pub erased : (a : ℕ) → length image ≤ a → a < pool_from image → slice_index flash a ≡ 0xFFFF
   pub kernel : (a : ℕ) → 0xF000 ≤ a → a ≤ 0xFFFF → slice_index flash a ≡ 0x9508

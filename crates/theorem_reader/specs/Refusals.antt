@@ -56,7 +56,8 @@ pub data IsUsage (words : List (List ℕ)) (own : ℕ) : Type 0 where
 -- may have one.
 pub data IsRefused (words : List (List ℕ)) (text line : List ℕ) : Type 0 where
   TooLong : ReadsText words → 2097152 < length text → line ≡ codes "input too long\n" → IsRefused words text line
-  BadHex : ReadsHex words → length text ≤ 2097152 → (number : ℕ) → (fault : HexFault) → hex_fault text ≡ Some (number, fault) → line ≡ bad_line (codes "hex") number (hex_word fault) → IsRefused words text line
+  BadHex : ReadsHex words → length text ≤ 2097152 → (number : ℕ) → (fault : HexFault) → hex_fault text ≡ Some (number, fault) → line ≡ bad_line (codes "hex") number (hex_word fault)
+      → IsRefused words text line
   BadScript : ReadsScript words → (image : List ℕ) → (front : HasHex text image) → (number : ℕ) → (fault : ScriptFault) → script_fault (drop front.position text) ≡ Some (number, fault)
       → line ≡ bad_line (codes "script") number (script_word fault) → IsRefused words text line
   BadScripts : (options : TaskOptions) → IsCommand words (Tasks options) → (image : List ℕ) → (front : HasHex text image) → (number : ℕ) → (fault : ScriptFault)

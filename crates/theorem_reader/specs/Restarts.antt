@@ -9,7 +9,7 @@ use Rattle.kernel_entry.specs.declared.kernel.End.TheVariants as ends
 use Rattle.program_steps.specs.Machines.{Machine}
 use Rattle.cli_words.specs.declared.command.Command.TheVariants.{Restart}
 use Rattle.theorem_reader.specs.Acts.{IsNew}
-use Rattle.theorem_reader.specs.Pools.{pages_where, is_formed, IsInPool, AreFaithful, IsErased, HasAddress, KeepsCode}
+use Rattle.theorem_reader.specs.Pools.{pages_where, IsFormed, IsInPool, AreFaithful, IsErased, HasAddress, KeepsCode}
 use Rattle.theorem_reader.specs.Checks.{used_in}
 use Rattle.theorem_reader.specs.Dumps.{HasEnded}
 use Rattle.theorem_reader.specs.Runs.{Asked, AsksAs, Start, IsRun}
@@ -40,7 +40,7 @@ pub data IsLost (image : List ℕ) (m : Machine) (flash erases : List ℕ) : Typ
 -- The page holds code of the image, wherever that leads, and no lower page that is kept has one of its addresses.
 pub record IsKeeper (image flash : List ℕ) (kept : ℕ → Bool) (page : ℕ) : Type 0 where
   pub used : slice_index flash (128 * page) ≢ 0xFFFF
-  pub formed : is_formed image flash page
+  pub formed : IsFormed image flash page
   pub alone : (lower t : ℕ) → IsInPool image lower → lower < page → kept lower ≡ true → HasAddress flash lower t → HasAddress flash page t → ⊥
 
 -- Of the pages of the pool just these are kept. What is left is a faithful flash, in which a page that is kept has the

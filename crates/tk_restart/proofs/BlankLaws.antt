@@ -1,7 +1,7 @@
 -- A page all of whose words are erased.
 use Rattle.std.proofs.Common.{◌≡◌, ℕ, ◌+◌, ◌*◌, ◌≤◌, true, false, List, length, ap, ◌∙◌}
 use Rattle.std.proofs.lemmas.Bool.{false_from_ne_true}
-use Rattle.base_laws.specs.Lists.{many}
+use Rattle.base.specs.Lists.{many}
 use Rattle.flash_words.specs.Pages.{page_words, page_of, blank}
 use Rattle.flash_words.proofs.PageLaws.{length-page_of}
 use Rattle.page_index.specs.Maps.{IsFree}

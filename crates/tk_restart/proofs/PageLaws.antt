@@ -41,7 +41,8 @@ word_there words words' a same =
     sym (ap (word_at words') here) ∙ sym one ∙ ap (word_at words) here
 
 -- the image stays where the pages outside the pool do
-pub image_there : (layout : Layout) (words words' : List ℕ) → IsRight layout → length words ≡ word_count → length words' ≡ length words → ((page : ℕ) → ¬ IsPool layout page → page_of words' page ≡ page_of words page) → image_of layout words' ≡ image_of layout words
+pub image_there : (layout : Layout) (words words' : List ℕ) → IsRight layout → length words ≡ word_count → length words' ≡ length words
+    → ((page : ℕ) → ¬ IsPool layout page → page_of words' page ≡ page_of words page) → image_of layout words' ≡ image_of layout words
 image_there layout words words' right whole size outside =
     let n = layout.image_words in
     let cut' : length (take n words') ≡ n = omega (arith, length-take n words', size, whole, right.image_fits) in

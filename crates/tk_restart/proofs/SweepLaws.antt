@@ -1,5 +1,5 @@
 -- Going up through the pool, what is judged so far stays judged.
-use Rattle.std.proofs.Common.{◌≡◌, ℕ, ◌+◌, ◌*◌, ◌<◌, ◌≤◌, Bool, true, false, not, List, length, arith, refl, sym, ap, ap₂, ◌∙◌, inl, inr, subst}
+use Rattle.std.proofs.Common.{◌≡◌, ℕ, ◌+◌, ◌*◌, ◌<◌, ◌≤◌, Bool, true, false, not, List, length, arith, refl, sym, ap, ap₂, ◌∙◌, inl, inr}
 use Rattle.std.specs.Prelude.{◌≢◌, ◌&&◌, if◌then◌else◌, slice_index}
 use Rattle.std.proofs.lemmas.Bool.{cases_lt}
 use Rattle.std.proofs.lemmas.Bool.Decides.{nat_tests}
@@ -10,7 +10,7 @@ use Rattle.flash_words.specs.Operations.{erased_page}
 use Rattle.flash_words.specs.Layouts.{IsRight, most_image_words}
 use Rattle.flash_words.specs.declared.layout.Layout.{Layout}
 use Rattle.flash_words.proofs.PageLaws as pages
-use Rattle.base_laws.proofs.ManyLaws.{length-many}
+use Rattle.base.proofs.ManyLaws.{length-many}
 use Rattle.page_index.specs.Maps.{IsPool, IsFree}
 use Rattle.page_index.proofs.MapLaws.{free_lists_nothing}
 use Rattle.page_draft.specs.CodePages.{Anywhere, IsCodePage}
@@ -34,7 +34,8 @@ unfolding blank
 blank_long = length-many page_words 0xFFFF
 
 -- what is judged stays judged where the pages up to this one stay
-pub swept_on : (layout : Layout) (image old now now' : List ℕ) (page : ℕ) → ((other : ℕ) → other ≤ page → page_of now' other ≡ page_of now other) → SweptPage layout image old now page → SweptPage layout image old now' page
+pub swept_on : (layout : Layout) (image old now now' : List ℕ) (page : ℕ) → ((other : ℕ) → other ≤ page → page_of now' other ≡ page_of now other) → SweptPage layout image old now page
+    → SweptPage layout image old now' page
 swept_on layout image old now now' page stays swept = elim swept [
   | Left code alone same ↦ Left code
       (λ lower i j t v v' pool below lists lists'. alone lower i j t v v' pool below (lists_there now' now lower i t v (sym (stays lower (omega arith))) lists) lists')
@@ -51,7 +52,7 @@ swept_own layout image old now now' page same swept = elim swept [
       (λ lower i j t v v' pool below lists lists'. alone lower i j t v v' pool below lists (lists_there old now page j t v' same lists'))
       (own ∙ same)
   | Freed none free ↦ Freed
-      (λ both. none (code_there image old now page same both.0, λ lower i j t v v' pool below lists lists'. both.1 lower i j t v v' pool below lists (lists_there now old page j t v' (sym same) lists')))
+      (λ both. none (code_there _ _ _ _ same both.0, λ lower i j t v v' pool below lists lists'. both.1 lower i j t v v' pool below lists (lists_there _ _ _ _ _ _ (sym same) lists')))
       free
 ]
 
@@ -73,7 +74,8 @@ used_there : (words words' : List ℕ) (page : ℕ) → page_of words' page ≡ 
 used_there words words' page same = sym (same_used words words' page (same_page words words' page same))
 
 -- one page more
-pub swept_more : (layout : Layout) (image : List ℕ) (old now now' : Memory) (k : ℕ) (told told' : Kept) (stays goes : Bool) → IsPool layout (layout.pool_first + k) → IsSwept layout image old now k told
+pub swept_more : (layout : Layout) (image : List ℕ) (old now now' : Memory) (k : ℕ) (told told' : Kept) (stays goes : Bool) → IsPool layout (layout.pool_first + k)
+    → IsSwept layout image old now k told
     → SweepsPage layout image old now now' (layout.pool_first + k) stays goes
     → told'.kept ≡ told.kept + (if stays then 1 else 0) → told'.dropped ≡ told.dropped + (if goes then 1 else 0) → IsSwept layout image old now' (k + 1) told'
 swept_more layout image old now now' k told told' stays goes pool swept sweeps kept_is dropped_is =
@@ -86,19 +88,19 @@ swept_more layout image old now now' k told told' stays goes pool swept sweeps k
     record {
       size = sweeps.size ∙ swept.size;
       outside = λ page out.
-          let apart : page ≢ n = λ same. out (let P : ℕ → Type 0 = λ p. IsPool layout p in subst P (sym same) pool) in
+          let apart : page ≢ n = λ same. out (rw same pool) in
           sweeps.others page apart ∙ swept.outside page out;
       ahead = λ page from. sweeps.others page (λ same. omega (arith, same, from)) ∙ swept.ahead page (omega arith);
       behind = λ page own below. elim (cases_lt page n) [
         | inl earlier ↦ swept_on layout image old.words now.words now'.words page (λ other to. before other (omega arith)) (swept.behind page own earlier)
         | inr not_earlier ↦
-            let P : ℕ → Type 0 = λ p. SweptPage layout image old.words now'.words p in
             let same : n ≡ page = omega arith in
-            subst P same (swept_own layout image old.words now.words now'.words n (swept.ahead n (omega arith)) sweeps.own)
+            rw same at (swept_own layout image old.words now.words now'.words n (swept.ahead n (omega arith)) sweeps.own)
       ];
       kept_is = kept_is ∙ ap₂ (λ m b. m + (if b then 1 else 0)) (swept.kept_is ∙ count_same (is_used now.words) (is_used now'.words) first k (λ page low high. used_on page high)) (sym sweeps.used)
           ∙ omega (arith, count_more (is_used now'.words) first k);
-      dropped_is = dropped_is ∙ ap₂ (λ m b. m + (if b then 1 else 0)) (swept.dropped_is ∙ count_same (is_dropped old.words (is_used now.words)) (is_dropped old.words (is_used now'.words)) first k (λ page low high. gone_on page high)) (sym sweeps.gone)
+      dropped_is = dropped_is ∙ ap₂ (λ m b. m + (if b then 1 else 0))
+          (swept.dropped_is ∙ count_same (is_dropped old.words (is_used now.words)) (is_dropped old.words (is_used now'.words)) first k (λ page low high. gone_on page high)) (sym sweeps.gone)
           ∙ omega (arith, count_more (is_dropped old.words (is_used now'.words)) first k);
       ops = sweeps.ops ∙ ap (λ m. m + (if goes then 1 else 0)) swept.ops ∙ omega (arith, dropped_is);
       erases = λ page own below. elim (cases_lt page n) [
@@ -106,12 +108,11 @@ swept_more layout image old now now' k told told' stays goes pool swept sweeps k
             sweeps.other_erases page (λ same. omega (arith, same, earlier)) ∙ swept.erases page own earlier ∙ ap (λ b. worn b (slice_index old.erases page)) (gone_on page earlier)
         | inr not_earlier ↦
             let same : n ≡ page = omega arith in
-            let P : ℕ → Type 0 = λ p. slice_index now'.erases p ≡ worn (is_dropped old.words (is_used now'.words) p) (slice_index old.erases p) in
-            subst P same (sweeps.own_erases ∙ ap₂ worn (sym sweeps.gone) (swept.other_erases n (inr (omega arith))))
+            rw same at (sweeps.own_erases ∙ ap₂ worn (sym sweeps.gone) (swept.other_erases n (inr (omega arith))))
       ];
       other_erases = λ page out. elim out [
         | inl none ↦
-            let apart : page ≢ n = λ same. none (let P : ℕ → Type 0 = λ p. IsPool layout p in subst P (sym same) pool) in
+            let apart : page ≢ n = λ same. none (rw same pool) in
             sweeps.other_erases page apart ∙ swept.other_erases page (inl none)
         | inr from ↦ sweeps.other_erases page (λ same. omega (arith, same, from)) ∙ swept.other_erases page (inr (omega arith))
       ];
@@ -131,105 +132,111 @@ blank_kept blank used is = grind (arith, nat_tests)
 gone_is : (blank used : Bool) → blank ≡ false → used ≡ false → (not blank && not used) ≡ true
 gone_is blank used none unused = grind (arith, nat_tests)
 
-stays_page : (layout : Layout) (image : List ℕ) (old now : Memory) (page : ℕ) → length image ≤ most_image_words → IsCodePage image now.words page → IsAlone layout now.words page → SweepsPage layout image old now now page true false
-stays_page layout image old now page short code alone =
-    let used = map_used now.words page (code_map image now.words page short code) in
-    record {
-      size = refl;
-      others = λ other apart. refl;
-      own = Left code alone refl;
-      used = used;
-      gone = used_kept (is_erased (page_of old.words page)) (is_used now.words page) used;
-      ops = omega arith;
-      own_erases = refl;
-      other_erases = λ other apart. refl;
-      failing = refl;
-      refused = refl;
-    }
+module _ (layout : Layout) (image : List ℕ) (old : Memory) where
+  stays_page : (now : Memory) (page : ℕ) → length image ≤ most_image_words → IsCodePage image now.words page → IsAlone layout now.words page → SweepsPage layout image old now now page true false
+  stays_page now page short code alone =
+      let used = map_used now.words page (code_map image now.words page short code) in
+      record {
+        size = refl;
+        others = λ other apart. refl;
+        own = Left code alone refl;
+        used = used;
+        gone = used_kept (is_erased (page_of old.words page)) (is_used now.words page) used;
+        ops = omega arith;
+        own_erases = refl;
+        other_erases = λ other apart. refl;
+        failing = refl;
+        refused = refl;
+      }
 
-blank_page : (layout : Layout) (image : List ℕ) (old now : Memory) (page : ℕ) → length image ≤ most_image_words → page_of now.words page ≡ page_of old.words page → IsFree now.words page → SweepsPage layout image old now now page false false
-blank_page layout image old now page short same free = record {
-  size = refl;
-  others = λ other apart. refl;
-  own = Freed (λ both. held_used Anywhere image now.words page both.0.first both.0.last short both.0.holds free) free;
-  used = free_unused now.words page free;
-  gone = blank_kept (is_erased (page_of old.words page)) (is_used now.words page) (free_blank old.words page (sym same ∙ free));
-  ops = omega arith;
-  own_erases = refl;
-  other_erases = λ other apart. refl;
-  failing = refl;
-  refused = refl;
-}
+  blank_page : (now : Memory) (page : ℕ) → length image ≤ most_image_words → page_of now.words page ≡ page_of old.words page → IsFree now.words page
+      → SweepsPage layout image old now now page false false
+  blank_page now page short same free = record {
+    size = refl;
+    others = λ other apart. refl;
+    own = Freed (λ both. held_used Anywhere image now.words page both.0.first both.0.last short both.0.holds free) free;
+    used = free_unused now.words page free;
+    gone = blank_kept (is_erased (page_of old.words page)) (is_used now.words page) (free_blank old.words page (sym same ∙ free));
+    ops = omega arith;
+    own_erases = refl;
+    other_erases = λ other apart. refl;
+    failing = refl;
+    refused = refl;
+  }
 
-goes_page : (layout : Layout) (image : List ℕ) (old now : Memory) (page : ℕ) → page < page_count → IsWhole now → page_of now.words page ≡ page_of old.words page → length now.words ≡ length old.words → ¬ IsFree now.words page → ¬ (IsCodePage image now.words page × IsAlone layout now.words page)
-    → SweepsPage layout image old now (erased_page now page) page false true
-goes_page layout image old now page low whole same size filled none =
-    let words = now.words in
-    let inside : page_words * page + page_words ≤ length words = omega (arith, whole.words) in
-    let free : IsFree (set_page words page blank) page = pages.page_same words blank page blank_long inside in
-    let beside : (other : ℕ) → other ≢ page → page_of (set_page words page blank) other ≡ page_of words other = λ other apart. pages.page_other words blank page other blank_long inside apart in
-    let unused = free_unused (set_page words page blank) page free in
-    let filled' : ¬ IsFree old.words page = λ free'. filled (same ∙ free') in
-    record {
-      size = pages.length-set_page words blank page blank_long inside;
-      others = beside;
-      own = Freed
-          (λ both. none (both.0, λ lower i j t v v' pool below lists lists'. both.1 lower i j t v v' pool below (lists_there words (set_page words page blank) lower i t v (beside lower (λ is. omega (arith, is, below))) lists) lists'))
-          free;
-      used = unused;
-      gone = gone_is (is_erased (page_of old.words page)) (is_used (set_page words page blank) page) (not_blank old.words page (omega (arith, inside, size)) filled') unused;
-      ops = omega arith;
-      own_erases = get_or-set_same now.erases page (raised (slice_index now.erases page)) 0 (omega (arith, whole.erases));
-      other_erases = λ other apart. get_or-set_other now.erases page other (raised (slice_index now.erases page)) 0 apart;
-      failing = refl;
-      refused = refl;
-    }
+  goes_page : (now : Memory) (page : ℕ) → page < page_count → IsWhole now → page_of now.words page ≡ page_of old.words page → length now.words ≡ length old.words → ¬ IsFree now.words page
+      → ¬ (IsCodePage image now.words page × IsAlone layout now.words page) → SweepsPage layout image old now (erased_page now page) page false true
+  goes_page now page low whole same size filled none =
+      let words = now.words in
+      let inside : page_words * page + page_words ≤ length words = omega (arith, whole.words) in
+      let free : IsFree (set_page words page blank) page = pages.page_same words blank page blank_long inside in
+      let beside : (other : ℕ) → other ≢ page → page_of (set_page words page blank) other ≡ page_of words other = λ other apart. pages.page_other words blank page other blank_long inside apart in
+      let unused = free_unused (set_page words page blank) page free in
+      let filled' : ¬ IsFree old.words page = λ free'. filled (same ∙ free') in
+      record {
+        size = pages.length-set_page words blank page blank_long inside;
+        others = beside;
+        own = Freed
+            (λ both. none (
+              both.0,
+              λ lower i j t v v' pool below lists lists'.
+                  both.1 lower i j t v v' pool below (lists_there _ _ _ _ _ _ (beside lower (λ is. omega (arith, is, below))) lists) lists',
+            ))
+            free;
+        used = unused;
+        gone = gone_is (is_erased (page_of old.words page)) (is_used (set_page words page blank) page) (not_blank old.words page (omega (arith, inside, size)) filled') unused;
+        ops = omega arith;
+        own_erases = get_or-set_same now.erases page (raised (slice_index now.erases page)) 0 (omega (arith, whole.erases));
+        other_erases = λ other apart. get_or-set_other now.erases page other (raised (slice_index now.erases page)) 0 apart;
+        failing = refl;
+        refused = refl;
+      }
 
-pub swept_fate : (layout : Layout) (image : List ℕ) (old now now' : Memory) (k : ℕ) (told told' : Kept) (fate : Fate) → length image ≤ most_image_words → IsRight layout → IsWhole now → IsPool layout (layout.pool_first + k)
-    → IsSwept layout image old now k told → IsJudged layout image now.words (layout.pool_first + k) fate → now' ≡ after_fate now (layout.pool_first + k) fate → told' ≡ counted told fate → IsSwept layout image old now' (k + 1) told'
-swept_fate layout image old now now' k told told' Stays short right whole pool swept judged after is =
-    let page = layout.pool_first + k in
-    let P : Memory → Type 0 = λ m. IsSwept layout image old m (k + 1) told' in
-    subst P (sym after) (swept_more layout image old now now k told told' true false pool swept (stays_page layout image old now page short judged.0 judged.1) (ap (λ t. t.kept) is) (ap (λ t. t.dropped) is ∙ omega arith))
-swept_fate layout image old now now' k told told' Blank short right whole pool swept judged after is =
-    let page = layout.pool_first + k in
-    let P : Memory → Type 0 = λ m. IsSwept layout image old m (k + 1) told' in
-    subst P (sym after) (swept_more layout image old now now k told told' false false pool swept (blank_page layout image old now page short (swept.ahead page (omega arith)) judged) (ap (λ t. t.kept) is ∙ omega arith) (ap (λ t. t.dropped) is ∙ omega arith))
-swept_fate layout image old now now' k told told' Goes short right whole pool swept judged after is =
-    let page = layout.pool_first + k in
-    let P : Memory → Type 0 = λ m. IsSwept layout image old m (k + 1) told' in
-    subst P (sym after) (swept_more layout image old now (erased_page now page) k told told' false true pool swept
-    (goes_page layout image old now page (omega (arith, pool.to, right.pool_below_kernel)) whole (swept.ahead page (omega arith)) swept.size judged.0 judged.1)
-    (ap (λ t. t.kept) is ∙ omega arith) (ap (λ t. t.dropped) is))
+  pub swept_fate : (now now' : Memory) (k : ℕ) (told told' : Kept) (fate : Fate) → length image ≤ most_image_words → IsRight layout → IsWhole now → IsPool layout (layout.pool_first + k)
+      → IsSwept layout image old now k told → IsJudged layout image now.words (layout.pool_first + k) fate → now' ≡ after_fate now (layout.pool_first + k) fate → told' ≡ counted told fate
+      → IsSwept layout image old now' (k + 1) told'
+  swept_fate now now' k told told' Stays short right whole pool swept judged after is =
+      let page = layout.pool_first + k in
+      rw after (swept_more layout image old now now k told told' true false pool swept (stays_page now page short judged.0 judged.1) (ap (λ t. t.kept) is) (ap (λ t. t.dropped) is ∙ omega arith))
+  swept_fate now now' k told told' Blank short right whole pool swept judged after is =
+      let page = layout.pool_first + k in
+      rw after (swept_more _ _ _ _ _ _ _ _ _ _ pool swept (blank_page now page short (swept.ahead page (omega arith)) judged) (ap (λ t. t.kept) is ∙ omega arith)
+      (ap (λ t. t.dropped) is ∙ omega arith))
+  swept_fate now now' k told told' Goes short right whole pool swept judged after is =
+      let page = layout.pool_first + k in
+      rw after (swept_more layout image old now (erased_page now page) k told told' false true pool swept
+      (goes_page now page (omega (arith, pool.to, right.pool_below_kernel)) whole (swept.ahead page (omega arith)) swept.size judged.0 judged.1)
+      (ap (λ t. t.kept) is ∙ omega arith) (ap (λ t. t.dropped) is))
 
-pub swept_none : (layout : Layout) (image : List ℕ) (old : Memory) → IsSwept layout image old old 0 (record { kept = 0; dropped = 0 })
-swept_none layout image old = record {
-  size = refl;
-  outside = λ page out. refl;
-  ahead = λ page from. refl;
-  behind = λ page pool below. absurd (omega (arith, pool.from));
-  kept_is = count_none (is_used old.words) layout.pool_first;
-  dropped_is = count_none (is_dropped old.words (is_used old.words)) layout.pool_first;
-  ops = omega arith;
-  erases = λ page pool below. absurd (omega (arith, pool.from));
-  other_erases = λ page out. refl;
-  failing = refl;
-  refused = refl;
-}
+  pub swept_none : IsSwept layout image old old 0 (record { kept = 0; dropped = 0 })
+  swept_none = record {
+    size = refl;
+    outside = λ page out. refl;
+    ahead = λ page from. refl;
+    behind = λ page pool below. absurd (omega (arith, pool.from));
+    kept_is = count_none (is_used old.words) layout.pool_first;
+    dropped_is = count_none (is_dropped old.words (is_used old.words)) layout.pool_first;
+    ops = omega arith;
+    erases = λ page pool below. absurd (omega (arith, pool.from));
+    other_erases = λ page out. refl;
+    failing = refl;
+    refused = refl;
+  }
 
--- the pages below are free or have a map
-pub swept_pages : (layout : Layout) (image : List ℕ) (old now : Memory) (k : ℕ) (told : Kept) → length image ≤ most_image_words → IsSwept layout image old now k told → ArePagesBelow layout now.words (layout.pool_first + k)
-swept_pages layout image old now k told short swept page pool below = elim (swept.behind page pool below) [
-  | Left code alone same ↦ inr (code_map image now.words page short (code_there image old.words now.words page same code))
-  | Freed none free ↦ inl free
-]
+  -- the pages below are free or have a map
+  pub swept_pages : (now : Memory) (k : ℕ) (told : Kept) → length image ≤ most_image_words → IsSwept layout image old now k told → ArePagesBelow layout now.words (layout.pool_first + k)
+  swept_pages now k told short swept page pool below = elim (swept.behind page pool below) [
+    | Left code alone same ↦ inr (code_map image now.words page short (code_there image old.words now.words page same code))
+    | Freed none free ↦ inl free
+  ]
 
 -- Behind the pool. -------------------------------------------------------------------------------------
 
 pub free_not_used : (words : List ℕ) (page : ℕ) → IsFree words page → is_used words page ≡ true → ⊥
 free_not_used words page free is = let unused = free_unused words page free in cc
 
-pub swept_all : (layout : Layout) (image : List ℕ) (old now : Memory) (told : Kept) → length image ≤ most_image_words → IsSwept layout image old now layout.pool_pages told → Sweeps layout image old now told
+pub swept_all : (layout : Layout) (image : List ℕ) (old now : Memory) (told : Kept) → length image ≤ most_image_words → IsSwept layout image old now layout.pool_pages told
+    → Sweeps layout image old now told
 swept_all layout image old now told short swept =
     let judged : (page : ℕ) → IsPool layout page → SweptPage layout image old.words now.words page = λ page pool. swept.behind page pool pool.to in
     let is_kept : (page : ℕ) → IsCodePage image old.words page → page_of now.words page ≡ page_of old.words page → is_used now.words page ≡ true = λ page code same.

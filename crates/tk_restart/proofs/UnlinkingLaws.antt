@@ -1,6 +1,6 @@
 -- Going up through the pool, the stubs of one page after another that stray call the bridge: what the pages list
 -- stays, so which stubs stray does.
-use Rattle.std.proofs.Common.{◌≡◌, ℕ, ◌+◌, ◌-◌, ◌*◌, ◌/◌, ◌<◌, ◌≤◌, ◌==◌, ◌&&◌, Bool, true, false, List, [], ◌∷◌, length, arith, refl, sym, ap, ap₂, ◌∙◌, inl, inr, subst}
+use Rattle.std.proofs.Common.{◌≡◌, ℕ, ◌+◌, ◌-◌, ◌*◌, ◌/◌, ◌<◌, ◌≤◌, ◌==◌, ◌&&◌, Bool, true, false, List, [], ◌∷◌, length, arith, refl, sym, ap, ap₂, ◌∙◌, inl, inr, ⊎_elim}
 use Rattle.std.specs.Prelude.{◌≢◌, ◌⊎◌, if◌then◌else◌, slice_index}
 use Rattle.std.proofs.lemmas.Bool.{cases_lt}
 use Rattle.std.proofs.lemmas.List.{get_or-set_same, get_or-set_other}
@@ -17,7 +17,7 @@ use Rattle.page_index.specs.Entries.{Lists}
 use Rattle.page_draft.specs.Standing.{jump_word, size}
 use Rattle.page_draft.specs.CodePages.{page_pieces, Anywhere, HoldsRun, IsCodePage}
 use Rattle.nat_page.specs.Used.{is_used}
-use Rattle.nat_page.specs.Unlinking.{is_picked, links_where, with_calls, pieces_in, stubs_where, are_some}
+use Rattle.nat_page.specs.Unlinking.{links_where, with_calls, pieces_in, stubs_where, are_some}
 use Rattle.page_draft.proofs.PieceLaws.{size-cons}
 use Rattle.nat_page.proofs.KeptLaws.{lists_again}
 use Rattle.nat_page.proofs.UnlinkLaws.{Each, length-with_calls, calls_alike, links_among, among_inside, holds_unlinked, no_stubs}
@@ -34,7 +34,8 @@ use Rattle.tk_restart.proofs.SweepLaws.{blank_long}
 
 -- The stubs of one page, in words that agree on it. ---------------------------------------------------------
 
-pub links_same : (words words' : List ℕ) (test test' : ℕ → ℕ → Bool) (a : ℕ) (pieces : List Piece) → ((x : ℕ) → a ≤ x → x < a + size pieces → word_at words' x ≡ word_at words x) → ((t v : ℕ) → test' t v ≡ test t v)
+pub links_same : (words words' : List ℕ) (test test' : ℕ → ℕ → Bool) (a : ℕ) (pieces : List Piece) → ((x : ℕ) → a ≤ x → x < a + size pieces → word_at words' x ≡ word_at words x)
+    → ((t v : ℕ) → test' t v ≡ test t v)
     → links_where words' test' a pieces ≡ links_where words test a pieces
 links_same words words' test test' a [] same tests = refl
 links_same words words' test test' a (Fixed word ∷ pieces) same tests =
@@ -43,8 +44,8 @@ links_same words words' test test' a (Fixed word ∷ pieces) same tests =
 links_same words words' test test' a (Link t ∷ pieces) same tests =
     let long = size-cons (Link t) pieces in
     let rest = links_same words words' test test' (a + 3) pieces (λ x from to. same x (omega arith) (omega arith)) tests in
-    let picked : is_picked words' test' a t ≡ is_picked words test a t =
-    ap₂ (λ w w'. w == jump_word && test' t w') (same a (omega arith) (omega arith)) (same (a + 1) (omega arith) (omega arith)) ∙ ap (λ b. word_at words a == jump_word && b) (tests t (word_at words (a + 1))) in
+    let picked = ap₂ (λ w w'. w == jump_word && test' t w') (same a (omega arith) (omega arith)) (same (a + 1) (omega arith) (omega arith))
+    ∙ ap (λ b. word_at words a == jump_word && b) (tests t (word_at words (a + 1))) in
     ap₂ (λ (b : Bool) (stubs : List ℕ). if b then a ∷ stubs else stubs) picked rest
 
 -- a run as the page tells it
@@ -63,12 +64,14 @@ stubs_same image words words' test test' page same tests code =
     let here : page_words * page + (x - page_words * page) ≡ x = omega arith in
     sym (ap (word_at words') here) ∙ sym (words_are (x - page_words * page) (omega arith)) ∙ ap (word_at words) here) tests
 
-stubs_inside : (image words : List ℕ) (test : ℕ → ℕ → Bool) (page n : ℕ) → page_words * page + page_words ≤ n → (own : OwnRun Anywhere image words page) → Each (λ s. s + 1 < n) (stubs_where test image words page)
+stubs_inside : (image words : List ℕ) (test : ℕ → ℕ → Bool) (page n : ℕ) → page_words * page + page_words ≤ n → (own : OwnRun Anywhere image words page)
+    → Each (λ s. s + 1 < n) (stubs_where test image words page)
 stubs_inside image words test page n inside own =
     let fits = own.holds.fits in
-    among_inside (page_words * page) (page_words * page + size (pieces_in image words page)) n (stubs_where test image words page) (omega arith) (links_among words test (page_words * page) (pieces_in image words page))
+    among_inside _ _ _ _ (omega arith) (links_among words test (page_words * page) (pieces_in image words page))
 
-pub calls_same : (image words words' : List ℕ) (test test' : ℕ → ℕ → Bool) (page : ℕ) → length words' ≡ length words → page_words * page + page_words ≤ length words → page_of words' page ≡ page_of words page → ((t v : ℕ) → test' t v ≡ test t v) → IsCodePage image words page
+pub calls_same : (image words words' : List ℕ) (test test' : ℕ → ℕ → Bool) (page : ℕ) → length words' ≡ length words → page_words * page + page_words ≤ length words
+    → page_of words' page ≡ page_of words page → ((t v : ℕ) → test' t v ≡ test t v) → IsCodePage image words page
     → page_of (with_calls words' (stubs_where test' image words' page)) page ≡ page_of (with_calls words (stubs_where test image words page)) page
 calls_same image words words' test test' page long inside same tests code =
     let stubs = stubs_where test image words page in
@@ -86,14 +89,15 @@ run_unlinked image words test page inside own =
 
 -- One page after the other. -----------------------------------------------------------------------------------
 
-no_strays : (layout : Layout) (image by words : List ℕ) (page : ℕ) → is_used words page ≡ false → strays_in layout image by words page ≡ []
-no_strays layout image by words page unused = ap (λ b. if b then stubs_where (is_stray layout by) image words page else []) unused
+module _ (layout : Layout) (image by words : List ℕ) (page : ℕ) where
+  no_strays : is_used words page ≡ false → strays_in layout image by words page ≡ []
+  no_strays unused = ap (λ b. if b then stubs_where (is_stray layout by) image words page else []) unused
 
-pub some_strays : (layout : Layout) (image by words : List ℕ) (page : ℕ) → is_used words page ≡ true → strays_in layout image by words page ≡ stubs_where (is_stray layout by) image words page
-some_strays layout image by words page used = ap (λ b. if b then stubs_where (is_stray layout by) image words page else []) used
+  pub some_strays : is_used words page ≡ true → strays_in layout image by words page ≡ stubs_where (is_stray layout by) image words page
+  some_strays used = ap (λ b. if b then stubs_where (is_stray layout by) image words page else []) used
 
-pub free_calls : (layout : Layout) (image by words : List ℕ) (page : ℕ) → IsFree words page → calls_in layout image by words page ≡ page_of words page
-free_calls layout image by words page free = ap (λ ss. page_of (with_calls words ss) page) (no_strays layout image by words page (free_unused words page free))
+  pub free_calls : IsFree words page → calls_in layout image by words page ≡ page_of words page
+  free_calls free = ap (λ ss. page_of (with_calls words ss) page) (no_strays (free_unused words page free))
 
 code_used : (image words : List ℕ) (page : ℕ) → length image ≤ most_image_words → IsCodePage image words page → is_used words page ≡ true
 code_used image words page short code = map_used words page (code_map image words page short code)
@@ -106,15 +110,13 @@ pub record Behind (image old now : List ℕ) (page : ℕ) : Type 0 where
 
 behind_same : (image old now : List ℕ) (page : ℕ) → IsFree old page ⊎ IsCodePage image old page → page_of now page ≡ page_of old page → Behind image old now page
 behind_same image old now page kind same = record {
-  kind = elim kind [
-    | inl free ↦ inl (same ∙ free)
-    | inr code ↦ inr (code_there image old now page same code)
-  ];
+  kind = ⊎_elim (λ free. inl (same ∙ free)) (λ code. inr (code_there image old now page same code)) kind;
   lists = λ i t v lists. lists_there old now page i t v same lists;
   back = λ i t v lists. lists_there now old page i t v (sym same) lists;
 }
 
-behind_calls : (layout : Layout) (image old now : List ℕ) (page : ℕ) → length image ≤ most_image_words → page_words * page + page_words ≤ length old → IsFree old page ⊎ IsCodePage image old page → page_of now page ≡ calls_in layout image old old page → Behind image old now page
+behind_calls : (layout : Layout) (image old now : List ℕ) (page : ℕ) → length image ≤ most_image_words → page_words * page + page_words ≤ length old → IsFree old page ⊎ IsCodePage image old page
+    → page_of now page ≡ calls_in layout image old old page → Behind image old now page
 behind_calls layout image old now page short inside kind is = elim kind [
   | inl free ↦ behind_same image old now page (inl free) (is ∙ free_calls layout image old old page free)
   | inr code ↦ (
@@ -136,19 +138,18 @@ pub inside_pool : (layout : Layout) (words : List ℕ) (page : ℕ) → IsRight 
 inside_pool layout words page right whole pool = omega (arith, whole, pool.to, right.pool_below_kernel)
 
 -- every page of the pool, at any moment
-pub behind_all : (layout : Layout) (image : List ℕ) (old now : Memory) (k page : ℕ) → length image ≤ most_image_words → IsRight layout → length old.words ≡ 65536 → AreCodes layout image old.words → IsUnlinked layout image old now k → IsPool layout page → Behind image old.words now.words page
+pub behind_all : (layout : Layout) (image : List ℕ) (old now : Memory) (k page : ℕ) → length image ≤ most_image_words → IsRight layout → length old.words ≡ 65536 → AreCodes layout image old.words
+    → IsUnlinked layout image old now k → IsPool layout page → Behind image old.words now.words page
 behind_all layout image old now k page short right whole codes unlinked pool = elim (cases_lt page (layout.pool_first + k)) [
   | inl before ↦ behind_calls layout image old.words now.words page short (inside_pool layout old.words page right whole pool) (codes page pool) (unlinked.behind page pool before)
   | inr ahead ↦ behind_same image old.words now.words page (codes page pool) (unlinked.ahead page (omega arith))
 ]
 
 pub pages_of : (layout : Layout) (image words : List ℕ) → length image ≤ most_image_words → AreCodes layout image words → ArePages layout words
-pages_of layout image words short codes page pool = elim (codes page pool) [
-  | inl free ↦ inl free
-  | inr code ↦ inr (code_map image words page short code)
-]
+pages_of layout image words short codes page pool = ⊎_elim inl (λ code. inr (code_map image words page short code)) (codes page pool)
 
-pub strays_still : (layout : Layout) (image : List ℕ) (old now : Memory) (k t v : ℕ) → length image ≤ most_image_words → IsRight layout → length old.words ≡ 65536 → AreCodes layout image old.words → IsUnlinked layout image old now k → is_stray layout now.words t v ≡ is_stray layout old.words t v
+pub strays_still : (layout : Layout) (image : List ℕ) (old now : Memory) (k t v : ℕ) → length image ≤ most_image_words → IsRight layout → length old.words ≡ 65536 → AreCodes layout image old.words
+    → IsUnlinked layout image old now k → is_stray layout now.words t v ≡ is_stray layout old.words t v
 strays_still layout image old now k t v short right whole codes unlinked =
     let at : (page : ℕ) → IsPool layout page → Behind image old.words now.words page = λ page pool. behind_all layout image old now k page short right whole codes unlinked pool in
     stray_alike layout old.words now.words t v (pages_of layout image old.words short codes) (pages_of layout image now.words short (λ page pool. (at page pool).kind))
@@ -167,133 +168,133 @@ pub record UnlinksPage (layout : Layout) (image : List ℕ) (old now now' : Memo
   pub failing : now'.failing ≡ now.failing
   pub refused : now'.refused ≡ now.refused
 
-pub unlinked_more : (layout : Layout) (image : List ℕ) (old now now' : Memory) (k : ℕ) (some : Bool) → IsPool layout (layout.pool_first + k) → IsUnlinked layout image old now k → UnlinksPage layout image old now now' (layout.pool_first + k) some → IsUnlinked layout image old now' (k + 1)
-unlinked_more layout image old now now' k some pool unlinked one =
-    let first = layout.pool_first in
-    let n = first + k in
-    let test = has_strays layout image old.words in
-    record {
-      size = one.size ∙ unlinked.size;
-      outside = λ page out.
-          let apart : page ≢ n = λ same. out (let P : ℕ → Type 0 = λ p. IsPool layout p in subst P (sym same) pool) in
-          one.others page apart ∙ unlinked.outside page out;
-      ahead = λ page from. one.others page (λ same. omega (arith, same, from)) ∙ unlinked.ahead page (omega arith);
-      behind = λ page own below. elim (cases_lt page n) [
-        | inl earlier ↦ one.others page (λ same. omega (arith, same, earlier)) ∙ unlinked.behind page own earlier
-        | inr not_earlier ↦
-            let P : ℕ → Type 0 = λ p. page_of now'.words p ≡ calls_in layout image old.words old.words p in
-            let same : n ≡ page = omega arith in
-            subst P same one.own
-      ];
-      ops = one.ops ∙ ap₂ (λ m (b : Bool). m + 2 * (if b then 1 else 0)) unlinked.ops (sym one.is) ∙ omega (arith, count_more test first k);
-      erases = λ page own below. elim (cases_lt page n) [
-        | inl earlier ↦ one.other_erases page (λ same. omega (arith, same, earlier)) ∙ unlinked.erases page own earlier
-        | inr not_earlier ↦
-            let same : n ≡ page = omega arith in
-            let P : ℕ → Type 0 = λ p. slice_index now'.erases p ≡ worn (test p) (slice_index old.erases p) in
-            subst P same (one.own_erases ∙ ap₂ worn (sym one.is) (unlinked.other_erases n (inr (omega arith))))
-      ];
-      other_erases = λ page out. elim out [
-        | inl none ↦
-            let apart : page ≢ n = λ same. none (let P : ℕ → Type 0 = λ p. IsPool layout p in subst P (sym same) pool) in
-            one.other_erases page apart ∙ unlinked.other_erases page (inl none)
-        | inr from ↦ one.other_erases page (λ same. omega (arith, same, from)) ∙ unlinked.other_erases page (inr (omega arith))
-      ];
-      failing = one.failing ∙ unlinked.failing;
-      refused = one.refused ∙ unlinked.refused;
-    }
+module _ (layout : Layout) (image : List ℕ) where
+  pub unlinked_more : (old now now' : Memory) (k : ℕ) (some : Bool) → IsPool layout (layout.pool_first + k) → IsUnlinked layout image old now k
+      → UnlinksPage layout image old now now' (layout.pool_first + k) some → IsUnlinked layout image old now' (k + 1)
+  unlinked_more old now now' k some pool unlinked one =
+      let first = layout.pool_first in
+      let n = first + k in
+      let test = has_strays layout image old.words in
+      record {
+        size = one.size ∙ unlinked.size;
+        outside = λ page out.
+            let apart : page ≢ n = λ same. out (rw same pool) in
+            one.others page apart ∙ unlinked.outside page out;
+        ahead = λ page from. one.others page (λ same. omega (arith, same, from)) ∙ unlinked.ahead page (omega arith);
+        behind = λ page own below. elim (cases_lt page n) [
+          | inl earlier ↦ one.others page (λ same. omega (arith, same, earlier)) ∙ unlinked.behind page own earlier
+          | inr not_earlier ↦
+              let same : n ≡ page = omega arith in
+              rw same at one.own
+        ];
+        ops = one.ops ∙ ap₂ (λ m (b : Bool). m + 2 * (if b then 1 else 0)) unlinked.ops (sym one.is) ∙ omega (arith, count_more test first k);
+        erases = λ page own below. elim (cases_lt page n) [
+          | inl earlier ↦ one.other_erases page (λ same. omega (arith, same, earlier)) ∙ unlinked.erases page own earlier
+          | inr not_earlier ↦
+              let same : n ≡ page = omega arith in
+              rw same at (one.own_erases ∙ ap₂ worn (sym one.is) (unlinked.other_erases n (inr (omega arith))))
+        ];
+        other_erases = λ page out. elim out [
+          | inl none ↦
+              let apart : page ≢ n = λ same. none (rw same pool) in
+              one.other_erases page apart ∙ unlinked.other_erases page (inl none)
+          | inr from ↦ one.other_erases page (λ same. omega (arith, same, from)) ∙ unlinked.other_erases page (inr (omega arith))
+        ];
+        failing = one.failing ∙ unlinked.failing;
+        refused = one.refused ∙ unlinked.refused;
+      }
 
--- in words that agree on a page its strays are the same
-strays_same : (layout : Layout) (image old now : List ℕ) (page : ℕ) → length image ≤ most_image_words → page_of now page ≡ page_of old page → ((t v : ℕ) → is_stray layout now t v ≡ is_stray layout old t v) → IsFree old page ⊎ IsCodePage image old page
-    → strays_in layout image now now page ≡ strays_in layout image old old page
-strays_same layout image old now page short same tests kind = elim kind [
-  | inl free ↦ no_strays layout image now now page (free_unused now page (same ∙ free)) ∙ sym (no_strays layout image old old page (free_unused old page free))
-  | inr code ↦ (
-      some_strays layout image now now page (code_used image now page short (code_there image old now page same code))
-      ∙ stubs_same image old now (is_stray layout old) (is_stray layout now) page same tests code
-      ∙ sym (some_strays layout image old old page (code_used image old page short code)))
-]
+  -- in words that agree on a page its strays are the same
+  strays_same : (old now : List ℕ) (page : ℕ) → length image ≤ most_image_words → page_of now page ≡ page_of old page → ((t v : ℕ) → is_stray layout now t v ≡ is_stray layout old t v)
+      → IsFree old page ⊎ IsCodePage image old page → strays_in layout image now now page ≡ strays_in layout image old old page
+  strays_same old now page short same tests kind = elim kind [
+    | inl free ↦ no_strays layout image now now page (free_unused now page (same ∙ free)) ∙ sym (no_strays layout image old old page (free_unused old page free))
+    | inr code ↦ (
+        some_strays layout image now now page (code_used image now page short (code_there image old now page same code))
+        ∙ stubs_same image old now (is_stray layout old) (is_stray layout now) page same tests code
+        ∙ sym (some_strays layout image old old page (code_used image old page short code)))
+  ]
 
-calls_still : (layout : Layout) (image old now : List ℕ) (page : ℕ) → length image ≤ most_image_words → length now ≡ length old → page_words * page + page_words ≤ length old → page_of now page ≡ page_of old page → ((t v : ℕ) → is_stray layout now t v ≡ is_stray layout old t v) → IsFree old page ⊎ IsCodePage image old page
-    → calls_in layout image now now page ≡ calls_in layout image old old page
-calls_still layout image old now page short long inside same tests kind = elim kind [
-  | inl free ↦ free_calls layout image now now page (same ∙ free) ∙ same ∙ sym (free_calls layout image old old page free)
-  | inr code ↦ (
-      ap (λ ss. page_of (with_calls now ss) page) (some_strays layout image now now page (code_used image now page short (code_there image old now page same code)))
-      ∙ calls_same image old now (is_stray layout old) (is_stray layout now) page long inside same tests code
-      ∙ sym (ap (λ ss. page_of (with_calls old ss) page) (some_strays layout image old old page (code_used image old page short code))))
-]
+  calls_still : (old now : List ℕ) (page : ℕ) → length image ≤ most_image_words → length now ≡ length old → page_words * page + page_words ≤ length old → page_of now page ≡ page_of old page
+      → ((t v : ℕ) → is_stray layout now t v ≡ is_stray layout old t v) → IsFree old page ⊎ IsCodePage image old page → calls_in layout image now now page ≡ calls_in layout image old old page
+  calls_still old now page short long inside same tests kind = elim kind [
+    | inl free ↦ free_calls layout image now now page (same ∙ free) ∙ same ∙ sym (free_calls layout image old old page free)
+    | inr code ↦ (
+        ap (λ ss. page_of (with_calls now ss) page) (some_strays layout image now now page (code_used image now page short (code_there image old now page same code)))
+        ∙ calls_same image old now (is_stray layout old) (is_stray layout now) page long inside same tests code
+        ∙ sym (ap (λ ss. page_of (with_calls old ss) page) (some_strays layout image old old page (code_used image old page short code))))
+  ]
 
--- whether it had strays
-one_by : (layout : Layout) (image : List ℕ) (old now : Memory) (page : ℕ) (some : Bool) → page < page_count → IsWhole now → length now.words ≡ length old.words → page_of now.words page ≡ page_of old.words page
-    → has_strays layout image now.words page ≡ some → has_strays layout image old.words page ≡ some → calls_in layout image now.words now.words page ≡ calls_in layout image old.words old.words page → length (calls_in layout image now.words now.words page) ≡ page_words
-    → UnlinksPage layout image old now (if some then programmed_page (erased_page now page) page (calls_in layout image now.words now.words page) else now) page some
-one_by layout image old now page false low whole size same here is calls long = record {
-  size = refl;
-  others = λ other apart. refl;
-  own = sym (ap (λ w. page_of w page) (no_stubs now.words (strays_in layout image now.words now.words page) here)) ∙ calls;
-  is = is;
-  ops = omega arith;
-  own_erases = refl;
-  other_erases = λ other apart. refl;
-  failing = refl;
-  refused = refl;
-}
-one_by layout image old now page true low whole size same here is calls long =
-    let words = now.words in
-    let new = calls_in layout image words words page in
-    let inside : page_words * page + page_words ≤ length words = omega (arith, whole.words) in
-    let once = set_page words page blank in
-    let long' : length once ≡ length words = pages.length-set_page words blank page blank_long inside in
-    record {
-      size = pages.length-set_page once new page long (omega (arith, long')) ∙ long';
-      others = λ other apart. pages.page_other once new page other long (omega (arith, long')) apart ∙ pages.page_other words blank page other blank_long inside apart;
-      own = pages.page_same once new page long (omega (arith, long')) ∙ calls;
-      is = is;
-      ops = omega arith;
-      own_erases = get_or-set_same now.erases page (raised (slice_index now.erases page)) 0 (omega (arith, whole.erases));
-      other_erases = λ other apart. get_or-set_other now.erases page other (raised (slice_index now.erases page)) 0 apart;
-      failing = refl;
-      refused = refl;
-    }
+  -- whether it had strays
+  one_by : (old now : Memory) (page : ℕ) (some : Bool) → page < page_count → IsWhole now → length now.words ≡ length old.words → page_of now.words page ≡ page_of old.words page
+      → has_strays layout image now.words page ≡ some → has_strays layout image old.words page ≡ some → calls_in layout image now.words now.words page ≡ calls_in layout image old.words old.words page
+      → length (calls_in layout image now.words now.words page) ≡ page_words
+      → UnlinksPage layout image old now (if some then programmed_page (erased_page now page) page (calls_in layout image now.words now.words page) else now) page some
+  one_by old now page false low whole size same here is calls long = record {
+    size = refl;
+    others = λ other apart. refl;
+    own = sym (ap (λ w. page_of w page) (no_stubs now.words (strays_in layout image now.words now.words page) here)) ∙ calls;
+    is = is;
+    ops = omega arith;
+    own_erases = refl;
+    other_erases = λ other apart. refl;
+    failing = refl;
+    refused = refl;
+  }
+  one_by old now page true low whole size same here is calls long =
+      let words = now.words in
+      let new = calls_in layout image words words page in
+      let inside : page_words * page + page_words ≤ length words = omega (arith, whole.words) in
+      let once = set_page words page blank in
+      let long' : length once ≡ length words = pages.length-set_page words blank page blank_long inside in
+      record {
+        size = pages.length-set_page once new page long (omega (arith, long')) ∙ long';
+        others = λ other apart. pages.page_other once new page other long (omega (arith, long')) apart ∙ pages.page_other words blank page other blank_long inside apart;
+        own = pages.page_same once new page long (omega (arith, long')) ∙ calls;
+        is = is;
+        ops = omega arith;
+        own_erases = get_or-set_same now.erases page (raised (slice_index now.erases page)) 0 (omega (arith, whole.erases));
+        other_erases = λ other apart. get_or-set_other now.erases page other (raised (slice_index now.erases page)) 0 apart;
+        failing = refl;
+        refused = refl;
+      }
 
-pub unlinked_one : (layout : Layout) (image : List ℕ) (old now now' : Memory) (k : ℕ) → length image ≤ most_image_words → IsRight layout → length old.words ≡ 65536 → AreCodes layout image old.words → IsWhole now → IsPool layout (layout.pool_first + k)
-    → IsUnlinked layout image old now k → now' ≡ unlinked_page layout image now (layout.pool_first + k) → IsUnlinked layout image old now' (k + 1)
-unlinked_one layout image old now now' k short right whole codes wholly pool unlinked after =
-    let page = layout.pool_first + k in
-    let same = unlinked.ahead page (omega arith) in
-    let tests : (t v : ℕ) → is_stray layout now.words t v ≡ is_stray layout old.words t v = λ t v. strays_still layout image old now k t v short right whole codes unlinked in
-    let inside = inside_pool layout old.words page right whole pool in
-    let stubs = strays_same layout image old.words now.words page short same tests (codes page pool) in
-    let calls = calls_still layout image old.words now.words page short unlinked.size inside same tests (codes page pool) in
-    let some = has_strays layout image now.words page in
-    let words' = with_calls now.words (strays_in layout image now.words now.words page) in
-    let long = pages.length-page_of words' page (omega (arith, length-with_calls now.words (strays_in layout image now.words now.words page), unlinked.size, inside)) in
-    let P : Memory → Type 0 = λ m. IsUnlinked layout image old m (k + 1) in
-    subst P (sym after) (unlinked_more layout image old now (unlinked_page layout image now page) k some pool unlinked
-    (one_by layout image old now page some (omega (arith, pool.to, right.pool_below_kernel)) wholly unlinked.size same refl (sym (ap are_some stubs)) calls long))
+  pub unlinked_one : (old now now' : Memory) (k : ℕ) → length image ≤ most_image_words → IsRight layout → length old.words ≡ 65536 → AreCodes layout image old.words → IsWhole now
+      → IsPool layout (layout.pool_first + k) → IsUnlinked layout image old now k → now' ≡ unlinked_page layout image now (layout.pool_first + k) → IsUnlinked layout image old now' (k + 1)
+  unlinked_one old now now' k short right whole codes wholly pool unlinked after =
+      let page = layout.pool_first + k in
+      let same = unlinked.ahead page (omega arith) in
+      let tests : (t v : ℕ) → is_stray layout now.words t v ≡ is_stray layout old.words t v = λ t v. strays_still layout image old now k t v short right whole codes unlinked in
+      let inside = inside_pool layout old.words page right whole pool in
+      let stubs = strays_same old.words now.words page short same tests (codes page pool) in
+      let calls = calls_still old.words now.words page short unlinked.size inside same tests (codes page pool) in
+      let some = has_strays layout image now.words page in
+      let words' = with_calls now.words (strays_in layout image now.words now.words page) in
+      let long = pages.length-page_of words' page (omega (arith, length-with_calls now.words (strays_in layout image now.words now.words page), unlinked.size, inside)) in
+      rw after (unlinked_more old now (unlinked_page layout image now page) k some pool unlinked
+      (one_by old now page some (omega (arith, pool.to, right.pool_below_kernel)) wholly unlinked.size same refl (sym (ap are_some stubs)) calls long))
 
-pub unlinked_none : (layout : Layout) (image : List ℕ) (old : Memory) → IsUnlinked layout image old old 0
-unlinked_none layout image old = record {
-  size = refl;
-  outside = λ page out. refl;
-  ahead = λ page from. refl;
-  behind = λ page pool below. absurd (omega (arith, pool.from));
-  ops = omega (arith, count_none (has_strays layout image old.words) layout.pool_first);
-  erases = λ page pool below. absurd (omega (arith, pool.from));
-  other_erases = λ page out. refl;
-  failing = refl;
-  refused = refl;
-}
+  pub unlinked_none : (old : Memory) → IsUnlinked layout image old old 0
+  unlinked_none old = record {
+    size = refl;
+    outside = λ page out. refl;
+    ahead = λ page from. refl;
+    behind = λ page pool below. absurd (omega (arith, pool.from));
+    ops = omega (arith, count_none (has_strays layout image old.words) layout.pool_first);
+    erases = λ page pool below. absurd (omega (arith, pool.from));
+    other_erases = λ page out. refl;
+    failing = refl;
+    refused = refl;
+  }
 
-pub unlinked_all : (layout : Layout) (image : List ℕ) (old now : Memory) → IsUnlinked layout image old now layout.pool_pages → Unlinks layout image old now
-unlinked_all layout image old now unlinked = record {
-  size = unlinked.size;
-  outside = unlinked.outside;
-  pages = λ page pool. unlinked.behind page pool pool.to;
-  ops = unlinked.ops;
-  erases = λ page pool. unlinked.erases page pool pool.to;
-  other_erases = λ page out. unlinked.other_erases page (inl out);
-  failing = unlinked.failing;
-  refused = unlinked.refused;
-}
+  pub unlinked_all : (old now : Memory) → IsUnlinked layout image old now layout.pool_pages → Unlinks layout image old now
+  unlinked_all old now unlinked = record {
+    size = unlinked.size;
+    outside = unlinked.outside;
+    pages = λ page pool. unlinked.behind page pool pool.to;
+    ops = unlinked.ops;
+    erases = λ page pool. unlinked.erases page pool pool.to;
+    other_erases = λ page out. unlinked.other_erases page (inl out);
+    failing = unlinked.failing;
+    refused = unlinked.refused;
+  }

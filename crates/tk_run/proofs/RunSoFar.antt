@@ -15,7 +15,7 @@ use Rattle.kernel_entry.specs.Seen.{program as program_of}
 use Rattle.program_steps.specs.Machines.{Machine, flat_of}
 use Rattle.program_steps.specs.Ready.{IsGoing, IsQuiet}
 use Rattle.printed_text.specs.DeviceLines.{device_line_text, lines_text}
-use Rattle.program_steps.specs.Stepping.{Goes, Stays, IsArrival, AreOfStep, ends_in_arrive, HasStepped, HasEntered}
+use Rattle.program_steps.specs.Stepping.{Goes, Stays, IsArrival, ends_in_arrive, HasStepped, HasEntered}
 use Rattle.tk_run.specs.Running.{original_from, run_of, states_of, StandsAfter, StepsTo, IsByStep}
 use Rattle.program_steps.proofs.Leading.{goes_on, stays_on, stays_self}
 
@@ -60,8 +60,8 @@ pub nothing : (i : ℕ) → 0 + i ≡ i
 nothing i = omega arith
 
 -- its moves, step by step
-stands_after : (old now : Machine) (i : ℕ) (before after : Option (List ℕ)) → IsBetween old now i before after → StandsAfter (states_of (original_from old)) i now
-stands_after old now i before after between = record {
+stands_after : {old now : Machine} {i : ℕ} {before after : Option (List ℕ)} → IsBetween old now i before after → StandsAfter (states_of (original_from old)) i now
+stands_after {old} {now} {i} between = record {
   ready = between.ready;
   quiet = between.quiet;
   stands = sym (ap (states_of (original_from old)) (sym (nothing i)) ∙ ap (λ (r : Run). r.state) (between.ran.run 0) ∙ (none_ran (program_of old.kernel) (flat_of now)).1);
@@ -79,36 +79,37 @@ pub record HasBegun (old now : Machine) (i : ℕ) (moves : List Move) : Type 0 w
   pub arrives : IsArrival boundary.at arrival
   pub goes : Goes boundary now arrival lines
 
-pub begun_between : (old now : Machine) (i : ℕ) (before after : Option (List ℕ)) → (between : IsBetween old now i before after) → HasBegun old now i between.ran.moves
+pub begun_between : {old now : Machine} {i : ℕ} (before after : Option (List ℕ)) → (between : IsBetween old now i before after) → HasBegun old now i between.ran.moves
 unfolding lines_of
-begun_between old now i before after between = record {
+begun_between {old} {now} before after between = record {
   boundary = now;
   before = between.ran.moves;
   arrival = [];
   lines = [];
   all = sym (append-nil between.ran.moves);
   steps = between.steps;
-  stands = stands_after old now i before after between;
+  stands = stands_after between;
   arrives = IsArrival.NoArrival refl;
   goes = record { walk = refl; told = refl; numbers = refl };
 }
 
-pub begun_entered : (old now new : Machine) (i : ℕ) (before after : Option (List ℕ)) (result : Option End) → (between : IsBetween old now i before after) → (entered : HasEntered now new result) → HasBegun old new i (between.ran.moves ++ entered.moves)
-begun_entered old now new i before after result between entered = record {
+pub begun_entered : {old : Machine} (now : Machine) {new : Machine} {i : ℕ} (before after : Option (List ℕ)) (result : Option End) → (between : IsBetween old now i before after)
+    → (entered : HasEntered now new result) → HasBegun old new i (between.ran.moves ++ entered.moves)
+begun_entered now before after result between entered = record {
   boundary = now;
   before = between.ran.moves;
   arrival = entered.moves;
   lines = [];
   all = refl;
   steps = between.steps;
-  stands = stands_after old now i before after between;
+  stands = stands_after between;
   arrives = entered.arrives;
   goes = entered.goes;
 }
 
 -- nothing more of it is made
-pub by_step_begun : (old now : Machine) (i : ℕ) (moves : List Move) → HasBegun old now i moves → IsByStep (states_of (original_from old)) old now i moves
-by_step_begun old now i moves begun = record {
+pub by_step_begun : {old now : Machine} {i : ℕ} {moves : List Move} → HasBegun old now i moves → IsByStep (states_of (original_from old)) old now i moves
+by_step_begun begun = record {
   last = begun.boundary;
   before = begun.before;
   behind = begun.arrival;
@@ -124,14 +125,13 @@ by_step_begun old now i moves begun = record {
 behind_all : (moves before arrival own : List Move) → moves ≡ before ++ arrival → moves ++ own ≡ before ++ (arrival ++ own)
 behind_all moves before arrival own all = ap (λ m. m ++ own) all ∙ append_assoc before arrival own
 
-of_step_by : (old now new : Machine) (i : ℕ) (moves : List Move) (line : Option Line) → (begun : HasBegun old now i moves) → (step : HasStepped now new line) → AreOfStep begun.boundary.at (begun.arrival ++ step.moves)
-of_step_by old now new i moves line begun step = record { arrival = begun.arrival; own = step.moves; parts = refl; arrives = begun.arrives; makes = inr step.own }
-
-goes_behind : (old now new : Machine) (i : ℕ) (moves : List Move) (line : Option Line) → (begun : HasBegun old now i moves) → (step : HasStepped now new line) → Goes begun.boundary new (begun.arrival ++ step.moves) (begun.lines ++ line_before line [])
+goes_behind : (old now new : Machine) (i : ℕ) (moves : List Move) (line : Option Line) → (begun : HasBegun old now i moves) → (step : HasStepped now new line)
+    → Goes begun.boundary new (begun.arrival ++ step.moves) (begun.lines ++ line_before line [])
 goes_behind old now new i moves line begun step = goes_on begun.boundary now new begun.arrival step.moves begun.lines (line_before line []) begun.goes step.goes
 
-pub steps_on : (old now new : Machine) (i : ℕ) (moves : List Move) (line : Option Line) → HasBegun old now i moves → (step : HasStepped now new line) → StepsTo (states_of (original_from old)) old (i + 1) (moves ++ step.moves) new
-steps_on old now new i moves line begun step =
+pub steps_on : {old now : Machine} (new : Machine) {i : ℕ} {moves : List Move} (line : Option Line) → HasBegun old now i moves → (step : HasStepped now new line)
+    → StepsTo (states_of (original_from old)) old (i + 1) (moves ++ step.moves) new
+steps_on {old} {now} new {i} {moves} line begun step =
     let next : suc i ≡ i + 1 = omega arith in
     subst (λ n. StepsTo (states_of (original_from old)) old n (moves ++ step.moves) new) next (
       begun.boundary,
@@ -147,8 +147,9 @@ steps_on old now new i moves line begun step =
       goes_behind old now new i moves line begun step,
     )
 
-pub by_step_stopped : (old now new : Machine) (i : ℕ) (moves : List Move) (line : Option Line) → HasBegun old now i moves → (step : HasStepped now new line) → IsByStep (states_of (original_from old)) old new i (moves ++ step.moves)
-by_step_stopped old now new i moves line begun step = record {
+pub by_step_stopped : {old now : Machine} (new : Machine) {i : ℕ} {moves : List Move} (line : Option Line) → HasBegun old now i moves → (step : HasStepped now new line)
+    → IsByStep (states_of (original_from old)) old new i (moves ++ step.moves)
+by_step_stopped {old} {now} new {i} {moves} line begun step = record {
   last = begun.boundary;
   before = begun.before;
   behind = begun.arrival ++ step.moves;
@@ -156,12 +157,13 @@ by_step_stopped old now new i moves line begun step = record {
   all = behind_all moves begun.before begun.arrival step.moves begun.all;
   steps = begun.steps;
   stands = begun.stands;
-  of_step = of_step_by old now new i moves line begun step;
+  of_step = record { arrival = begun.arrival; own = step.moves; parts = refl; arrives = begun.arrives; makes = inr step.own };
   goes = goes_behind old now new i moves line begun step;
 }
 
 -- a machine that is marked as broken behind them
-pub by_step_marked : (old new : Machine) (i : ℕ) (moves : List Move) → IsByStep (states_of (original_from old)) old new i moves → IsByStep (states_of (original_from old)) old (record new { broken = true }) i moves
+pub by_step_marked : (old new : Machine) (i : ℕ) (moves : List Move) → IsByStep (states_of (original_from old)) old new i moves
+    → IsByStep (states_of (original_from old)) old (record new { broken = true }) i moves
 by_step_marked old new i moves led = record {
   last = led.last;
   before = led.before;
@@ -193,12 +195,13 @@ unfolding ran_start
 between_start m known ready quiet = record { ran = ran_start m known; last = refl; steps = (refl, refl); ready = ready; quiet = quiet }
 
 -- on by moves that write no line, and of which the original program makes no step
-unfoldable pub ran_still : (old now new : Machine) (i : ℕ) (before after later : Option (List ℕ)) (moves : List Move) → (ran : Ran old now i before after) → Goes now new moves [] → Stays now new → new.broken ≡ now.broken → new.steps ≡ now.steps → flat_of new ≡ flat_of now
+unfoldable pub ran_still : (old : Machine) {now new : Machine} (i : ℕ) {before : Option (List ℕ)} (after : Option (List ℕ)) {later : Option (List ℕ)} {moves : List Move}
+    → (ran : Ran old now i before after) → Goes now new moves [] → Stays now new → new.broken ≡ now.broken → new.steps ≡ now.steps → flat_of new ≡ flat_of now
     → Appends before later (lines_text ran.lines) → Ran old new i before later
-ran_still old now new i before after later moves ran goes stays broken steps flat put = record {
+ran_still old {now} {new} i {before} after {later} {moves} ran goes stays broken steps flat put = record {
   lines = ran.lines;
   moves = ran.moves ++ moves;
-  goes = subst (λ l. Goes old new (ran.moves ++ moves) l) (append-nil ran.lines) (goes_on old now new ran.moves moves ran.lines [] ran.goes goes);
+  goes = rw (append-nil ran.lines) at (goes_on old now new ran.moves moves ran.lines [] ran.goes goes);
   stays = stays_on old now new ran.stays stays;
   broken = broken ∙ ran.broken;
   steps = steps ∙ ran.steps;
@@ -207,8 +210,7 @@ ran_still old now new i before after later moves ran goes stays broken steps fla
 }
 
 abbrev pub ran_enter : (old now new : Machine) (i : ℕ) (before after : Option (List ℕ)) (result : Option End) → Ran old now i before after → HasEntered now new result → Ran old new i before after
-ran_enter old now new i before after result ran entered =
-    ran_still old now new i before after after entered.moves ran entered.goes entered.stays entered.broken entered.steps entered.flat ran.put
+ran_enter old now new i before after result ran entered = ran_still old i after ran entered.goes entered.stays entered.broken entered.steps entered.flat ran.put
 
 pub lines_text_on : (a b : List Line) → lines_text (a ++ b) ≡ lines_text a ++ lines_text b
 lines_text_on a b = flat_map-append device_line_text a b
@@ -220,14 +222,16 @@ pub inside_same : (old now : Machine) → Stays old now → is_own now.kernel.pa
 inside_same old now stays is = ap (λ (p : Program). is_inside p now.at) (sym stays.program) ∙ is
 
 -- the program has the whole image still
-pub unshut_on : (old new : Machine) → Stays old new → old.kernel.part.shut ≡ false → new.kernel.part.shut ≡ false
-unshut_on old new stays is = ap (λ (p : Program). p.part.shut) stays.program ∙ is
+pub unshut_on : {old new : Machine} → Stays old new → old.kernel.part.shut ≡ false → new.kernel.part.shut ≡ false
+unshut_on stays is = ap (λ (p : Program). p.part.shut) stays.program ∙ is
 
-unfoldable pub ran_step : (old now new : Machine) (i : ℕ) (line : Option Line) (before after later : Option (List ℕ)) → Ran old now i before after → is_own now.kernel.part now.at ≡ true → (step : HasStepped now new line) → new.steps ≡ now.steps + 1
+unfoldable pub ran_step : {old now : Machine} (new : Machine) {i : ℕ} (line : Option Line) {before after later : Option (List ℕ)} → Ran old now i before after → is_own now.kernel.part now.at ≡ true
+    → (step : HasStepped now new line) → new.steps ≡ now.steps + 1
     → next_of (program_of now.kernel) (flat_of now) ≡ flat_ends.On line (flat_of new) → Appends after later (lines_text (line_before line [])) → Ran old new (i + 1) before later
-ran_step old now new i line before after later ran inside step steps is put =
+ran_step {old} {now} new {i} line {before} {after} {later} ran inside step steps is put =
     let program = program_of old.kernel in
-    let on : (k : ℕ) → run program (flat_of now) (suc k) ≡ with_line line (run program (flat_of new) k) = λ k. run_goes program (flat_of now) (flat_of new) k line (inside_same old now ran.stays inside) (tried_same old now _ ran.stays is) in
+    let on : (k : ℕ) → run program (flat_of now) (suc k) ≡ with_line line (run program (flat_of new) k) =
+    λ k. run_goes program (flat_of now) (flat_of new) k line (inside_same old now ran.stays inside) (tried_same old now _ ran.stays is) in
     record {
       lines = ran.lines ++ line_before line [];
       moves = ran.moves ++ step.moves;
@@ -235,24 +239,28 @@ ran_step old now new i line before after later ran inside step steps is put =
       stays = stays_on old now new ran.stays step.stays;
       broken = step.broken ∙ ran.broken;
       steps = omega (arith, steps, ran.steps);
-      put = subst (Appends before later) (sym (lines_text_on ran.lines (line_before line []))) (appends-both before after later (lines_text ran.lines) (lines_text (line_before line [])) ran.put put);
+      put = rw (lines_text_on ran.lines (line_before line [])) (appends-both before after later (lines_text ran.lines) (lines_text (line_before line [])) ran.put put);
       run = λ k.
           let same : k + (i + 1) ≡ suc k + i = omega arith in
           ap (original_from old) same ∙ ran.run (suc k) ∙ ap (behind ran.lines) (on k) ∙ behind_line ran.lines line (run program (flat_of new) k);
     }
 
 -- what the run is where it ends
-pub spent_at : (old now : Machine) (i : ℕ) (before after : Option (List ℕ)) → (ran : Ran old now i before after) → is_own now.kernel.part now.at ≡ true → original_from old i ≡ run_of flat_ends.Spent ran.lines (flat_of now)
+pub spent_at : (old now : Machine) (i : ℕ) (before after : Option (List ℕ)) → (ran : Ran old now i before after) → is_own now.kernel.part now.at ≡ true
+    → original_from old i ≡ run_of flat_ends.Spent ran.lines (flat_of now)
 spent_at old now i before after ran inside =
-    ap (original_from old) (sym (nothing i)) ∙ ran.run 0 ∙ ap (behind ran.lines) (run_spent (program_of old.kernel) (flat_of now) (inside_same old now ran.stays inside)) ∙ behind_ended ran.lines flat_ends.Spent (flat_of now)
+    ap (original_from old) (sym (nothing i)) ∙ ran.run 0 ∙ ap (behind ran.lines) (run_spent (program_of old.kernel) (flat_of now) (inside_same old now ran.stays inside))
+    ∙ behind_ended ran.lines flat_ends.Spent (flat_of now)
 
 -- with any bound that isn't less
-pub wild_at : (old now : Machine) (i k : ℕ) (before after : Option (List ℕ)) → (ran : Ran old now i before after) → is_own now.kernel.part now.at ≡ false → original_from old (k + i) ≡ run_of (flat_ends.Wild now.at) ran.lines (flat_of now)
+pub wild_at : (old now : Machine) (i k : ℕ) (before after : Option (List ℕ)) → (ran : Ran old now i before after) → is_own now.kernel.part now.at ≡ false
+    → original_from old (k + i) ≡ run_of (flat_ends.Wild now.at) ran.lines (flat_of now)
 wild_at old now i k before after ran outside =
-    ran.run k ∙ ap (behind ran.lines) (run_wild (program_of old.kernel) (flat_of now) k (ap (λ (p : Program). is_inside p now.at) (sym ran.stays.program) ∙ outside)) ∙ behind_ended ran.lines (flat_ends.Wild now.at) (flat_of now)
+    ran.run k ∙ ap (behind ran.lines) (run_wild (program_of old.kernel) (flat_of now) k (ap (λ (p : Program). is_inside p now.at) (sym ran.stays.program) ∙ outside))
+    ∙ behind_ended ran.lines (flat_ends.Wild now.at) (flat_of now)
 
 pub stop_at : (old now : Machine) (i k : ℕ) (before after : Option (List ℕ)) (end : FlatEnd) → (ran : Ran old now i before after)
-    → is_own now.kernel.part now.at ≡ true → next_of (program_of now.kernel) (flat_of now) ≡ flat_ends.Ends end
-    → original_from old (suc k + i) ≡ run_of end ran.lines (flat_of now)
+    → is_own now.kernel.part now.at ≡ true → next_of (program_of now.kernel) (flat_of now) ≡ flat_ends.Ends end → original_from old (suc k + i) ≡ run_of end ran.lines (flat_of now)
 stop_at old now i k before after end ran inside is =
-    ran.run (suc k) ∙ ap (behind ran.lines) (run_stops (program_of old.kernel) (flat_of now) k end (inside_same old now ran.stays inside) (tried_same old now _ ran.stays is)) ∙ behind_ended ran.lines end (flat_of now)
+    ran.run (suc k) ∙ ap (behind ran.lines) (run_stops (program_of old.kernel) (flat_of now) k end (inside_same old now ran.stays inside) (tried_same old now _ ran.stays is))
+    ∙ behind_ended ran.lines end (flat_of now)

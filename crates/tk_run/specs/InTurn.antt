@@ -1,7 +1,7 @@
 -- When lines go out: at each multiple of 65,536 steps all that were told by then have (docs/MACHINE.md, "A run of n steps").
 use Rattle.std.specs.Prelude.{ℕ, ◌*◌, ◌<◌, List, Option}
 use Rattle.std.specs.Io.KnownBytes.{Appends}
-use Rattle.line_gathering.specs.Gathering.{turn_steps}
+use Rattle.printed_text.specs.Gathering.{turn_steps}
 use Rattle.printed_text.specs.DeviceLines.{lines_text}
 use Rattle.program_steps.specs.Machines.{Machine}
 use Rattle.tk_run.specs.Running.{original_from}

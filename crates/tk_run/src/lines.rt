@@ -3,13 +3,12 @@
 ghost use Rattle.std.specs.Prelude.{◌≢◌, None, [], OnErr};
 ghost use Rattle.byte_streams.specs.Faults.{HasCause};
 ghost use Rattle.step_laws.specs.Moves.{line_before};
-ghost use Rattle.line_gathering.specs.Gathering.{Gathers};
+ghost use Rattle.printed_text.specs.Gathering.{Gathers};
 ghost use Rattle.printed_text.specs.DeviceLines.{lines_text};
 
 use byte_streams::{Failed, Sink};
-use line_gathering::{Gathered, add};
 use mote_devices::Line;
-use printed_text::device_line;
+use printed_text::{Gathered, add, device_line};
 
 /// Adds the line of a step, if it has one, to what was gathered.
 pub(crate) fn gather<K: Sink>(

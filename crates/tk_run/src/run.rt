@@ -13,8 +13,8 @@ use crate::End;
 use crate::lines::gather;
 use byte_streams::{Failed, Sink};
 use kernel_entry::Kernel;
-use line_gathering::{Gathered, send, send_in_turn, up_to_turn};
 use page_cursor::Cursor;
+use printed_text::{Gathered, send, send_in_turn, up_to_turn};
 use program_steps::{Progress, at_bound, enter, must_take, steps, take};
 
 /// Does up to n further steps, and puts the lines of each.
@@ -67,7 +67,7 @@ fn put_steps<K: Sink>(
     Ok(end)
 }
 
-/// The same for a machine that keeps no cursor: by one on the stack. Not inlined, since it is large.
+/// As `put_steps`, for a machine that keeps no cursor: by one on the stack. Not inlined, since it is large.
 #[inline(never)]
 fn put_steps_anew<K: Sink>(
     k: &mut Kernel,

@@ -19,7 +19,8 @@ task_of n t k [] i p there = absurd (cc)
 task_of n t k (x ∷ tasks) zero p there = (x, refl)
 task_of n t k (x ∷ tasks) (suc i) p there = task_of n t (k + 1) tasks i p there
 
-pub boot_player : (n : ℕ) (t : Tasks) (image : List ℕ) (scripts : List Schedule) (quantum slots i : ℕ) (task : Task) → turns_of n t ≡ turns_at_reset image scripts quantum slots n → slice_get t.tasks i ≡ Some task → i < length scripts
+pub boot_player : (n : ℕ) (t : Tasks) (image : List ℕ) (scripts : List Schedule) (quantum slots i : ℕ) (task : Task) → turns_of n t ≡ turns_at_reset image scripts quantum slots n
+    → slice_get t.tasks i ≡ Some task → i < length scripts
     → player_of n t i task ≡ player_at (task_words (length scripts) image) scripts quantum slots n i
 boot_player n t image scripts quantum slots i task same there below =
     let here : i ≡ 0 + i = omega arith in
@@ -28,11 +29,14 @@ boot_player n t image scripts quantum slots i task same there below =
 
 -- Each task is there, before the run and behind it, and none has ended at boot. ----------------------------
 
-pub each_first : (n : ℕ) (t : Tasks) (image : List ℕ) (scripts : List Schedule) (quantum slots i : ℕ) → turns_of n t ≡ turns_at_reset image scripts quantum slots n → i < length scripts → (task : Task) × (slice_get t.tasks i ≡ Some task)
+pub each_first : (n : ℕ) (t : Tasks) (image : List ℕ) (scripts : List Schedule) (quantum slots i : ℕ) → turns_of n t ≡ turns_at_reset image scripts quantum slots n → i < length scripts
+    → (task : Task) × (slice_get t.tasks i ≡ Some task)
 each_first n t image scripts quantum slots i same below =
-    task_of n t 0 t.tasks i (player_at (task_words (length scripts) image) scripts quantum slots n i) (ap (λ (s : Turns). slice_get s.players i) same ∙ reset_player image scripts quantum slots n i below)
+    task_of n t 0 t.tasks i (player_at (task_words (length scripts) image) scripts quantum slots n i)
+    (ap (λ (s : Turns). slice_get s.players i) same ∙ reset_player image scripts quantum slots n i below)
 
-pub each_last : (n : ℕ) (t : Tasks) (image : List ℕ) (scripts : List Schedule) (quantum slots i : ℕ) → turns_of n t ≡ (turns (turns_at_reset image scripts quantum slots n)).turns → i < length scripts → (task : Task) × (slice_get t.tasks i ≡ Some task)
+pub each_last : (n : ℕ) (t : Tasks) (image : List ℕ) (scripts : List Schedule) (quantum slots i : ℕ) → turns_of n t ≡ (turns (turns_at_reset image scripts quantum slots n)).turns → i < length scripts
+    → (task : Task) × (slice_get t.tasks i ≡ Some task)
 each_last n t image scripts quantum slots i same below =
     let start = turns_at_reset image scripts quantum slots n in
     let p = player_at (task_words (length scripts) image) scripts quantum slots n i in
@@ -43,7 +47,8 @@ none_ended : (end : Option TaskEnd) → flat_end_of end ≡ None → end ≡ Non
 none_ended None is = refl
 none_ended (Some end) is = absurd (cc)
 
-pub first_going : (n : ℕ) (t : Tasks) (image : List ℕ) (scripts : List Schedule) (quantum slots i : ℕ) (task : Task) → turns_of n t ≡ turns_at_reset image scripts quantum slots n → slice_get t.tasks i ≡ Some task → task.end ≡ None
+pub first_going : (n : ℕ) (t : Tasks) (image : List ℕ) (scripts : List Schedule) (quantum slots i : ℕ) (task : Task) → turns_of n t ≡ turns_at_reset image scripts quantum slots n
+    → slice_get t.tasks i ≡ Some task → task.end ≡ None
 first_going n t image scripts quantum slots i task same there =
     none_ended task.end (reset_going (task_words (length scripts) image) 0 scripts quantum slots n i (player_of n t (0 + i) task)
     (ap (λ (s : Turns). slice_get s.players i) (sym same) ∙ player_from n t 0 t.tasks i task there))

@@ -1,23 +1,19 @@
 -- The tasks behind a try of the running one: it is what its machine came to, and the others wait as before.
-use Rattle.std.proofs.Common.{◌≡◌, ℕ, zero, suc, ◌+◌, ◌-◌, ◌*◌, ◌<◌, ◌≤◌, Bool, true, false, List, [], ◌∷◌, length, get_or, ◌⊎◌, refl, sym, ap, ap₂, ◌∙◌, arith, subst, inl, inr}
+use Rattle.std.proofs.Common.{◌≡◌, ℕ, zero, suc, ◌+◌, ◌-◌, ◌*◌, ◌<◌, ◌≤◌, false, List, [], ◌∷◌, length, get_or, ◌⊎◌, refl, sym, ap, ap₂, ◌∙◌, arith, subst, inl, inr}
 use Rattle.std.specs.Prelude.{◌≢◌, ◌^◌, slice_get, slice_set, sum_by, Option, Some, None}
 use Rattle.std.proofs.lemmas.Bool.{cases_eq, cases_lt}
 use Rattle.std.proofs.lemmas.List.Sums.{sum_by-cons}
 use Rattle.std.proofs.lemmas.Nat.{mul-le}
 use Rattle.flash_words.specs.Operations.{is_listed}
+use Rattle.flash_words.specs.Layouts.{image_of, layout_of}
 use Rattle.flash_words.specs.Memory.{Memory}
-use Rattle.flash_words.specs.Layouts.{layout_of}
 use Rattle.flash_words.specs.declared.layout.Layout.{Layout}
 use Rattle.sram_layout.specs.Bytes.{byte_count, byte_at}
-use Rattle.branch_bridge.specs.declared.rewriting.Torn.{Torn}
 use Rattle.branch_bridge.specs.Arrivals.{KeepsOtherBytes}
 use Rattle.mote_core.specs.declared.mote.Mote.{Mote}
 use Rattle.flat_machine.specs.FlatMachine.{Program}
-use Rattle.kernel_entry.specs.declared.kernel.Kernel.{Kernel}
-use Rattle.kernel_entry.specs.Parts.{image_held}
 use Rattle.kernel_entry.specs.Seen.{program as program_of}
 use Rattle.kernel_entry.specs.declared.kernel.Owed.{Owed}
-use Rattle.kernel_entry.specs.declared.kernel.End.{End}
 use Rattle.program_steps.specs.Machines.{Machine, flat_of}
 use Rattle.program_steps.specs.Ready.{most_arrivals, IsSound, IsGoing, IsQuiet}
 use Rattle.program_steps.specs.Stepping.{Stays}
@@ -30,7 +26,7 @@ use Rattle.task_input.specs.Images.{quarter}
 use Rattle.task_turns.specs.Quarters.{quarter_part}
 use Rattle.parked_tasks.specs.Parking.{IsSized, taken_up}
 use Rattle.task_turns.specs.Turns.{Player, with_player}
-use Rattle.tk_tasks.specs.States.{Tasks, owed_of, stub_of, mote_for, machine_end, arrivals_of, others_of, machine_of, IsTask, AreSound, player_of, players_from, turns_of}
+use Rattle.tk_tasks.specs.States.{Tasks, owed_of, mote_for, machine_end, arrivals_of, others_of, machine_of, IsTask, AreSound, player_of, players_from, turns_of}
 use Rattle.parked_tasks.specs.Ends.{flat_end_of}
 use Rattle.tk_tasks.specs.Trying.{target_of, stub_in, kept_task, kept_tasks}
 use Rattle.parked_tasks.proofs.Parkings.{both_size, both_in_low, both_in_high, both_between}
@@ -74,25 +70,16 @@ owed_back (Some owed) = refl
 
 -- the sum of arrivals but its own is what it was
 others_kept : (t : Tasks) (task : Task) (m : Machine) (end : Option TaskEnd) → slice_get t.tasks t.running ≡ Some task → others_of (kept_tasks t task m end) (kept_task task m end) ≡ others_of t task
-others_kept t task m end here =
-    omega (arith, sum_set arrivals_of t.tasks t.running task (kept_task task m end) here, sum_has arrivals_of t.tasks t.running task here)
+others_kept t task m end here = omega (arith, sum_set arrivals_of t.tasks t.running task (kept_task task m end) here, sum_has arrivals_of t.tasks t.running task here)
 
 -- its machine is just that one
-pub machine_kept : (t : Tasks) (task : Task) (m : Machine) (end : Option TaskEnd) → slice_get t.tasks t.running ≡ Some task → task.parked ≡ None → t.kernel.part ≡ quarter_part t.running → IsCome t task m end
+pub machine_kept : {t : Tasks} {task : Task} {m : Machine} {end : Option TaskEnd} → slice_get t.tasks t.running ≡ Some task → task.parked ≡ None → t.kernel.part ≡ quarter_part t.running
+    → IsCome t task m end
     → machine_of (kept_tasks t task m end) t.running (kept_task task m end) ≡ m
-machine_kept t task m end here alone own come =
-    let new = kept_tasks t task m end in
-    let make : Kernel → Option Owed → Option End → Option Torn → Bool → ℕ → ℕ → Machine = λ k o e n b g s. record m { kernel = k; owed = o; end = e; torn = n; broken = b; began = g; others = s } in
-    let others = others_of new (kept_task task m end) in
-    let same : quarter_part t.running ≡ m.kernel.part = sym (ap (λ (p : Program). p.part) come.stays.program) in
-    ap (λ q. make (record m.kernel { mote = mote_for m.kernel.mote q; part = quarter_part t.running }) (owed_of (target_of m.owed) (stub_of new q)) (machine_end end) None false 0 others) alone
-    ∙ ap (λ p. make (record m.kernel { part = p }) (owed_of (target_of m.owed) (stub_in m.owed)) (machine_end end) None false 0 others) same
-    ∙ ap (λ o. make m.kernel o (machine_end end) None false 0 others) (owed_back m.owed)
-    ∙ ap (λ e. make m.kernel m.owed e None false 0 others) come.ended
-    ∙ ap (λ n. make m.kernel m.owed m.end n false 0 others) (sym (untorn_left m come.left))
-    ∙ ap (λ b. make m.kernel m.owed m.end m.torn b 0 others) (sym come.whole)
-    ∙ ap (λ g. make m.kernel m.owed m.end m.torn m.broken g others) (sym come.began)
-    ∙ ap (λ s. make m.kernel m.owed m.end m.torn m.broken m.began s) (others_kept t task m end here ∙ sym come.others)
+machine_kept {t} {task} {m} {end} here alone own come =
+    let others : others_of (kept_tasks t task m end) (kept_task task m end) ≡ m.others = others_kept t task m end here ∙ sym come.others in
+    let part : quarter_part t.running ≡ m.kernel.part = sym (ap (λ (p : Program). p.part) come.stays.program) in
+    rw (others, alone, part, owed_back m.owed, come.ended, untorn_left m come.left, come.whole, come.began)
 
 -- ---- a task that waits
 
@@ -123,7 +110,8 @@ byte_past : (m : List ℕ) (a : ℕ) → length m ≡ byte_count → 0x1100 ≤ 
 unfolding byte_at
 byte_past m a size beyond = past m (a - 256) (omega arith)
 
-own_byte : (old new : Mote) (q : Parked) (a : ℕ) → length old.sram ≡ byte_count → length new.sram ≡ byte_count → IsSized q → 0x0100 ≤ a → (a < 0x0142) ⊎ (0x0400 ≤ a) → byte_at (sram_with new q) a ≡ byte_at (sram_with old q) a
+own_byte : (old new : Mote) (q : Parked) (a : ℕ) → length old.sram ≡ byte_count → length new.sram ≡ byte_count → IsSized q → 0x0100 ≤ a → (a < 0x0142) ⊎ (0x0400 ≤ a)
+    → byte_at (sram_with new q) a ≡ byte_at (sram_with old q) a
 own_byte old new q a size size' sized from (inl below) =
     both_in_low new.sram q.low q.high a size' sized.0 sized.1 from (omega arith) ∙ sym (both_in_low old.sram q.low q.high a size sized.0 sized.1 from (omega arith))
 own_byte old new q a size size' sized from (inr above) = elim (cases_lt a 0x1100) [
@@ -143,54 +131,49 @@ pub record IsBefore (t : Tasks) (task : Task) : Type 0 where
   pub whole : t.broken ≡ false
   pub here : slice_get t.tasks t.running ≡ Some task
 
-running_alone : (t : Tasks) (task : Task) → IsBefore t task → task.parked ≡ None
-running_alone t task before = (before.sound.each t.running task before.here).running refl
+running_alone : {t : Tasks} {task : Task} → IsBefore t task → task.parked ≡ None
+running_alone {t} {task} before = (before.sound.each t.running task before.here).running refl
 
 failing_for : (m : Mote) (o : Option Parked) → (mote_for m o).flash ≡ m.flash
 failing_for m None = refl
 failing_for m (Some q) = refl
 
-held_for : (t : Tasks) (task : Task) → image_held (machine_of t t.running task).kernel ≡ image_held t.kernel
-held_for t task = ap (λ (f : Memory). image_held (record t.kernel { mote = record t.kernel.mote { flash = f } })) (failing_for t.kernel.mote task.parked)
+waits_unfailing : {t : Tasks} {task : Task} {m : Machine} {end : Option TaskEnd} → IsBefore t task → IsCome t task m end → m.kernel.mote.flash.failing ≡ []
+waits_unfailing {t} {task} before come = come.stays.failing ∙ ap (λ (f : Memory). f.failing) (failing_for t.kernel.mote task.parked) ∙ before.sound.unfailing
 
-waits_unfailing : (t : Tasks) (task : Task) (m : Machine) (end : Option TaskEnd) → IsBefore t task → IsCome t task m end → m.kernel.mote.flash.failing ≡ []
-waits_unfailing t task m end before come = come.stays.failing ∙ ap (λ (f : Memory). f.failing) (failing_for t.kernel.mote task.parked) ∙ before.sound.unfailing
-
-few_others : (t : Tasks) (task : Task) (m : Machine) (end : Option TaskEnd) → IsBefore t task → IsCome t task m end → sum_by arrivals_of (kept_tasks t task m end).tasks ≤ 10 ^ 13
-few_others t task m end before come =
+few_others : {t : Tasks} {task : Task} {m : Machine} {end : Option TaskEnd} → IsBefore t task → IsCome t task m end → sum_by arrivals_of (kept_tasks t task m end).tasks ≤ 10 ^ 13
+few_others {t} {task} {m} {end} before come =
     let steps : (i : ℕ) (x : Task) → slice_get t.tasks i ≡ Some x → x.steps ≤ 10 ^ 12 = λ i x is. (before.sound.each i x is).sound.steps in
-    let all = sum_most t.tasks (10 ^ 12) steps in
-    let few = before.sound.few in
-    let mine = most_owed (owed_of (target_of m.owed) None) m.steps in
-    let steps_m = come.sound.steps in
-    let set = sum_set arrivals_of t.tasks t.running task (kept_task task m end) before.here in
-    let bound : (10 ^ 12 + 1) * length t.tasks ≤ (10 ^ 12 + 1) * 4 = mul-le (10 ^ 12 + 1) (length t.tasks) (10 ^ 12 + 1) 4 (omega arith) few in
-    omega arith
+    let bound : (10 ^ 12 + 1) * length t.tasks ≤ (10 ^ 12 + 1) * 4 = mul-le (10 ^ 12 + 1) (length t.tasks) (10 ^ 12 + 1) 4 (omega arith) before.sound.few in
+    omega (
+      arith,
+      bound,
+      sum_most t.tasks (10 ^ 12) steps,
+      most_owed (owed_of (target_of m.owed) None) m.steps,
+      come.sound.steps,
+      sum_set arrivals_of t.tasks t.running task (kept_task task m end) before.here,
+    )
 
-waited : (t : Tasks) (task : Task) (m : Machine) (end : Option TaskEnd) (i : ℕ) (u : Task) (q : Parked) → IsBefore t task → IsCome t task m end → i ≢ t.running → slice_get t.tasks i ≡ Some (parked_as u q) → IsSized q
+waited : {t : Tasks} {task : Task} {m : Machine} {end : Option TaskEnd} (i : ℕ) (u : Task) {q : Parked} → IsBefore t task → IsCome t task m end → i ≢ t.running
+    → slice_get t.tasks i ≡ Some (parked_as u q) → IsSized q
     → HasWaited (machine_of t i (parked_as u q)) m (sram_with m.kernel.mote q) (others_of (kept_tasks t task m end) (parked_as u q))
-waited t task m end i u q before come apart there sized =
+waited {t} {task} {m} {end} i u {q} before come apart there sized =
     let new = kept_tasks t task m end in
-    let y = machine_of t i (parked_as u q) in
     let there' : slice_get new.tasks i ≡ Some (parked_as u q) = elsewhere_by t.tasks t.running i (kept_task task m end) apart ∙ there in
     let has = sum_has arrivals_of new.tasks i (parked_as u q) there' in
     let set = sum_set arrivals_of t.tasks t.running task (kept_task task m end) before.here in
     let own = sum_has arrivals_of t.tasks t.running task before.here in
-    let mine = most_back m.owed m.steps in
-    let others = come.others in
-    let few = few_others t task m end before come in
-    let shut : m.kernel.part.shut ≡ true = ap (λ (p : Program). p.part.shut) come.stays.program in
     record {
       left = come.left;
       layout = come.stays.layout;
-      image = ap (λ (p : Program). p.image) come.stays.program ∙ held_for t task;
-      shut = shut;
-      unfailing = λ op. ap (λ l. is_listed l op) (waits_unfailing t task m end before come);
-      own = own_kept t.kernel.mote m.kernel.mote q (running_size t task before.sound before.here (running_alone t task before)) come.left.order.paged.sized.sram sized;
+      image = ap (λ (p : Program). p.image) come.stays.program ∙ ap (λ (f : Memory). image_of t.kernel.layout f.words) (failing_for t.kernel.mote task.parked);
+      shut = ap (λ (p : Program). p.part.shut) come.stays.program;
+      unfailing = λ op. ap (λ l. is_listed l op) (waits_unfailing before come);
+      own = own_kept t.kernel.mote m.kernel.mote q (running_size task before.sound before.here (running_alone before)) come.left.order.paged.sized.sram sized;
       tables = λ b from to. both_between m.kernel.mote.sram q.low q.high b come.left.order.paged.sized.sram sized.0 sized.1 (omega arith) (omega arith);
       began = come.began;
-      sum = omega arith;
-      few = omega arith;
+      sum = omega (arith, has, set, own, most_back m.owed m.steps, come.others);
+      few = omega (arith, has, few_others before come, come.began);
     }
 
 -- it stands as before, and is the same player
@@ -203,14 +186,15 @@ some_owed : (owed : Option ℕ) → owed ≢ None → (a : ℕ) × (owed_of owed
 some_owed None some = absurd (some refl)
 some_owed (Some a) some = (a, refl)
 
-waits_as : (t : Tasks) (task : Task) (m : Machine) (end : Option TaskEnd) (i : ℕ) (u : Task) (q : Parked) → IsBefore t task → IsCome t task m end → i ≢ t.running → slice_get t.tasks i ≡ Some (parked_as u q) → Waits t task m end i (parked_as u q)
-waits_as t task m end i u q before come apart there =
+waits_as : {t : Tasks} {task : Task} {m : Machine} {end : Option TaskEnd} (i : ℕ) (u : Task) (q : Parked) → IsBefore t task → IsCome t task m end → i ≢ t.running
+    → slice_get t.tasks i ≡ Some (parked_as u q) → Waits t task m end i (parked_as u q)
+waits_as {t} {task} {m} {end} i u q before come apart there =
     let new = kept_tasks t task m end in
     let stood = before.sound.each i (parked_as u q) there in
     let y = machine_of t i (parked_as u q) in
     let sram = sram_with m.kernel.mote q in
     let others = others_of new (parked_as u q) in
-    let wait = waited t task m end i u q before come apart there stood.sized in
+    let wait = waited i u before come apart there stood.sized in
     let same = machine_other t task m end i u q come.stays in
     record {
       stands = record {
@@ -218,10 +202,10 @@ waits_as t task m end i u q before come apart there =
         waiting = λ e none. (let bad : Some q ≡ None = none in cc);
         owes = λ e. stood.owes apart;
         sized = stood.sized;
-        sound = subst IsSound (sym same) (sound_waiting y m sram others wait refl stood.sound);
+        sound = rw same (sound_waiting y m sram others wait refl stood.sound);
         going = λ whole going. (
             let owed = some_owed u.owed (stood.owes apart going) in
-            subst IsGoing (sym same) (going_waiting y m sram others owed.0 wait owed.1 (stood.going before.whole going)));
+            rw same (going_waiting y m sram others owed.0 wait owed.1 (stood.going before.whole going)));
         quiet = λ whole going none. (
             let owed = some_owed u.owed (stood.owes apart going) in
             absurd (let bad : Some (record { target = owed.0; stub = None }) ≡ None = sym owed.1 ∙ none in cc));
@@ -230,44 +214,47 @@ waits_as t task m end i u q before come apart there =
       flat = ap flat_of same ∙ flat_waiting y m sram others wait;
     }
 
-waits_by : (t : Tasks) (task : Task) (m : Machine) (end : Option TaskEnd) (i : ℕ) (u : Task) (parked : Option Parked) → u.parked ≡ parked → IsBefore t task → IsCome t task m end → i ≢ t.running → slice_get t.tasks i ≡ Some u → Waits t task m end i u
-waits_by t task m end i u None is before come apart there = absurd ((before.sound.each i u there).waiting apart is)
-waits_by t task m end i u (Some q) is before come apart there =
+waits_by : {t : Tasks} {task : Task} {m : Machine} {end : Option TaskEnd} (i : ℕ) (u : Task) (parked : Option Parked) → u.parked ≡ parked → IsBefore t task → IsCome t task m end → i ≢ t.running
+    → slice_get t.tasks i ≡ Some u → Waits t task m end i u
+waits_by i u None is before come apart there = absurd ((before.sound.each i u there).waiting apart is)
+waits_by i u (Some q) is before come apart there =
     let same : u ≡ parked_as u q = ap (λ o. record u { parked = o }) is in
-    subst (Waits t task m end i) (sym same) (waits_as t task m end i u q before come apart (there ∙ ap (λ z. Some z) same))
+    rw same (waits_as i u q before come apart (there ∙ ap (λ z. Some z) same))
 
-pub waits : (t : Tasks) (task : Task) (m : Machine) (end : Option TaskEnd) (i : ℕ) (u : Task) → IsBefore t task → IsCome t task m end → i ≢ t.running → slice_get t.tasks i ≡ Some u → Waits t task m end i u
-waits t task m end i u before come apart there = waits_by t task m end i u u.parked refl before come apart there
+pub waits : (t : Tasks) (task : Task) (m : Machine) (end : Option TaskEnd) (i : ℕ) (u : Task) → IsBefore t task → IsCome t task m end → i ≢ t.running → slice_get t.tasks i ≡ Some u
+    → Waits t task m end i u
+waits t task m end i u before come apart there = waits_by i u u.parked refl before come apart there
 
 -- ---- all of them
 
-runs_on : (t : Tasks) (task : Task) (m : Machine) (end : Option TaskEnd) → IsBefore t task → IsCome t task m end → IsTask (kept_tasks t task m end) t.running (kept_task task m end)
-runs_on t task m end before come =
-    let alone = running_alone t task before in
-    let same = machine_kept t task m end before.here alone before.sound.part come in
+runs_on : {t : Tasks} {task : Task} {m : Machine} {end : Option TaskEnd} → IsBefore t task → IsCome t task m end → IsTask (kept_tasks t task m end) t.running (kept_task task m end)
+runs_on {t} {task} before come =
+    let alone = running_alone before in
+    let same = machine_kept before.here alone before.sound.part come in
     record {
       running = λ e. alone;
       waiting = λ apart. absurd (apart refl);
       owes = λ apart. absurd (apart refl);
       sized = (before.sound.each t.running task before.here).sized;
-      sound = subst IsSound (sym same) come.sound;
-      going = λ whole going. subst IsGoing (sym same) (come.going going);
+      sound = rw same come.sound;
+      going = λ whole going. rw same (come.going going);
       quiet = λ whole going. subst IsQuiet (sym same) (come.quiet going);
     }
 
-each_on : (t : Tasks) (task : Task) (m : Machine) (end : Option TaskEnd) → IsBefore t task → IsCome t task m end → (i : ℕ) (u : Task) → slice_get (kept_tasks t task m end).tasks i ≡ Some u → IsTask (kept_tasks t task m end) i u
-each_on t task m end before come i u there = elim (cases_eq i t.running) [
+each_on : {t : Tasks} {task : Task} {m : Machine} {end : Option TaskEnd} → IsBefore t task → IsCome t task m end → (i : ℕ) (u : Task) → slice_get (kept_tasks t task m end).tasks i ≡ Some u
+    → IsTask (kept_tasks t task m end) i u
+each_on {t} {task} {m} {end} before come i u there = elim (cases_eq i t.running) [
   | inl same ↦
       let new = kept_tasks t task m end in
       let here = set_same t.tasks t.running task (kept_task task m end) before.here in
       let its : kept_task task m end ≡ u = here_is new.tasks t.running (kept_task task m end) u here (ap (slice_get new.tasks) (sym same) ∙ there) in
-      subst (IsTask new i) its (subst (λ k. IsTask new k (kept_task task m end)) (sym same) (runs_on t task m end before come))
+      subst (IsTask new i) its (subst (λ k. IsTask new k (kept_task task m end)) (sym same) (runs_on before come))
   | inr apart ↦ (waits t task m end i u before come apart (sym (elsewhere_by t.tasks t.running i (kept_task task m end) apart) ∙ there)).stands
 ]
 
 -- the tasks stay sound
-pub sound_kept : (t : Tasks) (task : Task) (m : Machine) (end : Option TaskEnd) → IsBefore t task → IsCome t task m end → AreSound (kept_tasks t task m end)
-sound_kept t task m end before come =
+pub sound_kept : {t : Tasks} {task : Task} {m : Machine} {end : Option TaskEnd} → IsBefore t task → IsCome t task m end → AreSound (kept_tasks t task m end)
+sound_kept {t} {task} {m} {end} before come =
     let size = length_by t.tasks t.running (kept_task task m end) in
     let sound = before.sound in
     record {
@@ -275,50 +262,44 @@ sound_kept t task m end before come =
       one_runs = omega (arith, size, sound.one_runs);
       part = ap (λ (p : Program). p.part) come.stays.program;
       layout = come.stays.layout ∙ sound.layout ∙ ap (λ n. layout_of (quarter * n)) (sym size);
-      unfailing = waits_unfailing t task m end before come;
-      each = each_on t task m end before come;
+      unfailing = waits_unfailing before come;
+      each = each_on before come;
     }
 
--- the players: the running one alone is another
-same_at : (n : ℕ) (t new : Tasks) (i : ℕ) (x y : Task) → y ≡ x → player_of n new i x ≡ player_of n t i x → player_of n new i y ≡ player_of n t i x
-same_at n t new i x y is same = ap (player_of n new i) is ∙ same
-
-players_same_from : (n : ℕ) (t new : Tasks) (k : ℕ) (tasks : List Task) → ((i : ℕ) (u : Task) → slice_get tasks i ≡ Some u → player_of n new (k + i) u ≡ player_of n t (k + i) u) → players_from n new k tasks ≡ players_from n t k tasks
-players_same_from n t new k tasks same = players_same n t new k tasks tasks refl (λ i x y is is'. same_at n t new (k + i) x y (here_is tasks i y x is' is) (same i x is))
-
-players_on : (n : ℕ) (t new : Tasks) (k : ℕ) (tasks : List Task) (r : ℕ) (task x : Task) → slice_get tasks r ≡ Some task → ((i : ℕ) (u : Task) → i ≢ r → slice_get tasks i ≡ Some u → player_of n new (k + i) u ≡ player_of n t (k + i) u)
+players_on : (n : ℕ) (t new : Tasks) (k : ℕ) (tasks : List Task) (r : ℕ) (task x : Task) → slice_get tasks r ≡ Some task
+    → ((i : ℕ) (u : Task) → i ≢ r → slice_get tasks i ≡ Some u → player_of n new (k + i) u ≡ player_of n t (k + i) u)
     → players_from n new k (slice_set tasks r x) ≡ slice_set (players_from n t k tasks) r (player_of n new (k + r) x)
 players_on n t new k [] r task x is same = absurd (cc)
 players_on n t new k (y ∷ tasks) zero task x is same =
     let here : k ≡ k + 0 = omega arith in
-    let rest = players_same_from n t new (k + 1) tasks (λ i u there.
+    let rest = players_same n t new (k + 1) tasks tasks refl (λ i u y is is'.
     let at : k + suc i ≡ k + 1 + i = omega arith in
-    subst (λ j. player_of n new j u ≡ player_of n t j u) at (same (suc i) u (λ e. absurd (omega arith)) there)) in
+    ap (player_of n new (k + 1 + i)) (here_is tasks i y u is' is) ∙ rw at at (same (suc i) u (λ e. absurd (omega arith)) is)) in
     ap₂ (λ p l. p ∷ l) (ap (λ j. player_of n new j x) here) rest
 players_on n t new k (y ∷ tasks) (suc r) task x is same =
     let here : k + 0 ≡ k = omega arith in
     let there : k + 1 + r ≡ k + suc r = omega arith in
-    let head : player_of n new k y ≡ player_of n t k y = subst (λ j. player_of n new j y ≡ player_of n t j y) here (same 0 y (λ e. absurd (omega arith)) refl) in
+    let head : player_of n new k y ≡ player_of n t k y = rw here at (same 0 y (λ e. absurd (omega arith)) refl) in
     let rest = players_on n t new (k + 1) tasks r task x is (λ i u apart is'.
     let at : k + suc i ≡ k + 1 + i = omega arith in
-    subst (λ j. player_of n new j u ≡ player_of n t j u) at (same (suc i) u (λ e. apart (omega arith)) is')) in
+    rw at at (same (suc i) u (λ e. apart (omega arith)) is')) in
     ap₂ (λ p l. p ∷ l) head (rest ∙ ap (λ j. slice_set (players_from n t (k + 1) tasks) r (player_of n new j x)) there)
 
-waits_player : (n : ℕ) (t : Tasks) (task : Task) (m : Machine) (end : Option TaskEnd) (i : ℕ) (u : Task) → Waits t task m end i u → player_of n (kept_tasks t task m end) i u ≡ player_of n t i u
-waits_player n t task m end i u waits =
-    ap₂ (λ p f. record { program = p; moment = f; left = n - u.steps; end = flat_end_of u.end }) waits.program waits.flat
+waits_player : (n : ℕ) {t : Tasks} {task : Task} {m : Machine} {end : Option TaskEnd} {i : ℕ} {u : Task} → Waits t task m end i u → player_of n (kept_tasks t task m end) i u ≡ player_of n t i u
+waits_player n {t} {task} {m} {end} {i} {u} waits = ap₂ (λ p f. record { program = p; moment = f; left = n - u.steps; end = flat_end_of u.end }) waits.program waits.flat
 
 -- the player that m is
 abbrev pub player_by : ℕ → Machine → Option TaskEnd → Player
 player_by n m end = record { program = program_of m.kernel; moment = flat_of m; left = n - m.steps; end = flat_end_of end }
 
-pub turns_kept : (n : ℕ) (t : Tasks) (task : Task) (m : Machine) (end : Option TaskEnd) → IsBefore t task → IsCome t task m end → turns_of n (kept_tasks t task m end) ≡ with_player (turns_of n t) (player_by n m end)
-turns_kept n t task m end before come =
+pub turns_kept : (n : ℕ) {t : Tasks} {task : Task} {m : Machine} {end : Option TaskEnd} → IsBefore t task → IsCome t task m end
+    → turns_of n (kept_tasks t task m end) ≡ with_player (turns_of n t) (player_by n m end)
+turns_kept n {t} {task} {m} {end} before come =
     let new = kept_tasks t task m end in
     let none : (k : ℕ) → 0 + k ≡ k = λ k. omega arith in
-    let same = machine_kept t task m end before.here (running_alone t task before) before.sound.part come in
+    let same = machine_kept before.here (running_alone before) before.sound.part come in
     let its : player_of n new (0 + t.running) (kept_task task m end) ≡ player_by n m end =
-    ap (λ j. player_of n new j (kept_task task m end)) (none t.running) ∙ ap (λ (z : Machine). record { program = program_of z.kernel; moment = flat_of z; left = n - m.steps; end = flat_end_of end }) same in
+    ap (λ j. player_of n new j (kept_task task m end)) (none t.running) ∙ ap (λ z. player_by n z end) same in
     let all = players_on n t new 0 t.tasks t.running task (kept_task task m end) before.here (λ i u apart there.
-    subst (λ j. player_of n new j u ≡ player_of n t j u) (sym (none i)) (waits_player n t task m end i u (waits t task m end i u before come apart there))) in
+    rw (none i) (waits_player n (waits t task m end i u before come apart there))) in
     ap (λ l. record { players = l; running = t.running; switches = t.switches }) (all ∙ ap (slice_set (players_from n t 0 t.tasks) t.running) its)

@@ -24,7 +24,7 @@ use Rattle.parked_tasks.specs.declared.parked.Parked.{Parked}
 use Rattle.parked_tasks.specs.declared.task.Task.{Task}
 use Rattle.task_input.specs.Images.{quarter, task_words}
 use Rattle.task_turns.specs.Quarters.{quarter_part}
-use Rattle.parked_tasks.specs.Parking.{IsSized, taken_up}
+use Rattle.parked_tasks.specs.Parking.{IsSized}
 use Rattle.task_turns.specs.Turns.{Player, at_reset_in, from_start}
 use Rattle.tk_tasks.specs.States.{Tasks, arrivals_of, others_of, machine_of, IsTask, AreSound, players_from, turns_of}
 use Rattle.tk_tasks.specs.Booted.{IsUnstarted, booted}
@@ -44,9 +44,11 @@ first_kernel words script quantum slots i = (first_machine words script quantum 
 parted_at_boot : (words : List ℕ) (part : ℕ → ℕ) → length words ≤ most_image_words → IsParted (layout_of (length words)) words (loaded words) part
 parted_at_boot words part few s t link jump =
     let layout : Layout = layout_of (length words) in
-    absurd (held_used (IsEntry layout (loaded words)) words (loaded words) link.page link.first link.last few link.holds (new_flash_free layout words link.page (layout_right (length words) few) (omega arith) link.pool))
+    absurd (held_used (IsEntry layout (loaded words)) words (loaded words) link.page link.first link.last few link.holds
+    (new_flash_free layout words link.page (layout_right (length words) few) (omega arith) link.pool))
 
-pub going_at_boot : (words : List ℕ) (script : Schedule) (quantum slots i others count : ℕ) → length words ≡ quarter * count → count ≤ 4 → i < count → 1 ≤ quantum → quantum < 256 → slots ≤ 251 → others ≤ 10 ^ 12 → IsWhole (new_flash words [])
+pub going_at_boot : (words : List ℕ) (script : Schedule) (quantum slots i others count : ℕ) → length words ≡ quarter * count → count ≤ 4 → i < count → 1 ≤ quantum → quantum < 256 → slots ≤ 251
+    → others ≤ 10 ^ 12 → IsWhole (new_flash words [])
     → IsGoing (first_machine words script quantum slots i others)
 going_at_boot words script quantum slots i others count long few below some low room little whole =
     let fits : length words ≤ most_image_words = omega (arith, long, few) in
@@ -56,23 +58,27 @@ going_at_boot words script quantum slots i others count long few below some low 
 -- Its program is at reset. --------------------------------------------------------------------------------
 
 player_by : (words : List ℕ) (script : Schedule) (quantum slots i others n : ℕ) → length words ≤ most_image_words
-    → ◌≡◌ {A = Player} (record { program = program_of (first_machine words script quantum slots i others).kernel; moment = flat_of (first_machine words script quantum slots i others); left = n - 0; end = None })
+    → ◌≡◌ {A = Player} (record {
+      program = program_of (first_machine words script quantum slots i others).kernel;
+      moment = flat_of (first_machine words script quantum slots i others);
+      left = n - 0;
+      end = None;
+    })
     (at_reset_in (record { image = words; part = quarter_part i; page_limit = slots; quantum = quantum }) script.events n)
 player_by words script quantum slots i others n few =
     let all : n - 0 ≡ n = omega arith in
-    ap₂ (λ p m. record { program = p; moment = m; left = n - 0; end = None }) (program_begun words (new_flash words []) script (quarter_part i) quantum slots 0 others (new_flash_faithful (layout_of (length words)) words (layout_right (length words) few) refl))
-    (flat_begun (new_flash words []) script (length words) (quarter_part i) quantum slots 0 others)
-    ∙ ap (λ l. at_reset_in (record { image = words; part = quarter_part i; page_limit = slots; quantum = quantum }) script.events l) all
+    let faithful = new_flash_faithful (layout_of (length words)) words (layout_right (length words) few) refl in
+    rw (
+      program_begun words (new_flash words []) script (quarter_part i) quantum slots 0 others faithful,
+      flat_begun (new_flash words []) script (length words) (quarter_part i) quantum slots 0 others,
+      all,
+    )
 
 -- The tasks at boot. --------------------------------------------------------------------------------------
 
 first_is : (t : Tasks) (words : List ℕ) (first script : Schedule) (quantum slots i : ℕ) → t.kernel ≡ first_kernel words first quantum slots 0 → t.pages ≡ 0
     → machine_of t i (at_start i (Some (parked_at_boot script quantum slots))) ≡ first_machine words script quantum slots i (others_of t (at_start i (Some (parked_at_boot script quantum slots))))
-first_is t words first script quantum slots i kernel pages =
-    let task = at_start i (Some (parked_at_boot script quantum slots)) in
-    let others = others_of t task in
-    let M : Kernel → ℕ → Machine = λ k n. record (first_machine words script quantum slots i others) { kernel = record k { mote = taken_up k.mote (parked_at_boot script quantum slots); part = quarter_part i }; pages = n } in
-    ap₂ M kernel pages ∙ ap (λ m. record (first_machine words script quantum slots i others) { kernel = record (first_kernel words first quantum slots 0) { mote = m; part = quarter_part i } }) (taken_at_boot words first script quantum slots)
+first_is t words first script quantum slots i kernel pages = rw (kernel, pages, taken_at_boot words first script quantum slots)
 
 -- no arrival was made
 waiting_sum : (task : ℕ) (scripts : List Schedule) (quantum slots : ℕ) → sum_by arrivals_of (waiting_from task scripts quantum slots) ≡ 0
@@ -96,17 +102,18 @@ pub record CanStart (words : List ℕ) (count quantum slots : ℕ) : Type 0 wher
   pub room : slots ≤ 251
   pub whole : IsWhole (new_flash words [])
 
-sound_going : (m : Machine) → m.steps ≤ 10 ^ 12 → IsGoing m → IsSound m
-sound_going m few ready = record {
+sound_going : {m : Machine} → m.steps ≤ 10 ^ 12 → IsGoing m → IsSound m
+sound_going {m} few ready = record {
   order = ready.order;
   bounded = bounded_counted (numbers_of m) m.crossings m.kernel.quantum (count_in m) m.at m.kernel.mote.devices.polls m.owed ready.counted ready.arrivals ready.polls;
   steps = few;
 }
 
-task_at_boot : (t : Tasks) (words : List ℕ) (script : Schedule) (count quantum slots i : ℕ) (parked : Option Parked) → CanStart words count quantum slots → i < count → sum_by arrivals_of t.tasks ≡ 0
+task_at_boot : (t : Tasks) {words : List ℕ} (script : Schedule) {count quantum slots : ℕ} (i : ℕ) {parked : Option Parked} → CanStart words count quantum slots → i < count
+    → sum_by arrivals_of t.tasks ≡ 0
     → machine_of t i (at_start i parked) ≡ first_machine words script quantum slots i (others_of t (at_start i parked))
     → (i ≡ t.running → parked ≡ None) → (i ≢ t.running → parked ≢ None) → IfSome parked IsSized → IsTask t i (at_start i parked)
-task_at_boot t words script count quantum slots i parked can below sum is runs waits sized =
+task_at_boot t {words} script {count} {quantum} {slots} i {parked} can below sum is runs waits sized =
     let others = others_of t (at_start i parked) in
     let little : others ≤ 10 ^ 12 = omega (arith, sum) in
     let going = going_at_boot words script quantum slots i others count can.long can.few below can.quantum_some can.quantum_low can.room little can.whole in
@@ -116,8 +123,8 @@ task_at_boot t words script count quantum slots i parked can below sum is runs w
       waiting = waits;
       owes = λ apart goes none. (let e : Some (quarter * i) ≡ None = none in cc);
       sized = sized;
-      sound = subst IsSound (sym is) (sound_going m (omega arith) going);
-      going = λ whole goes. subst IsGoing (sym is) going;
+      sound = rw is (sound_going (omega arith) going);
+      going = λ whole goes. rw is going;
       quiet = λ whole goes free. refl;
     }
 
@@ -126,7 +133,7 @@ each_at_boot : (image : List ℕ) (first : Schedule) (others : List Schedule) (q
 each_at_boot image first others quantum slots zero task can there =
     let t = booted image first others quantum slots in
     subst (IsTask t 0) (same_Some _ _ there)
-    (task_at_boot t (task_words (length others + 1) image) first (length others + 1) quantum slots 0 None can (omega arith) (booted_sum image first others quantum slots) refl (λ e. refl) (λ apart. absurd (apart refl)) tt)
+    (task_at_boot t first 0 can (omega arith) (booted_sum image first others quantum slots) refl (λ e. refl) (λ apart. absurd (apart refl)) tt)
 each_at_boot image first others quantum slots (suc k) task can there =
     let t = booted image first others quantum slots in
     let words = task_words (length others + 1) image in
@@ -135,11 +142,12 @@ each_at_boot image first others quantum slots (suc k) task can there =
     let below = one.below in
     let parked = parked_at_boot one.script quantum slots in
     let is : at_start (suc k) (Some parked) ≡ task = ap (λ i. at_start i (Some parked)) (sym at) ∙ sym one.is in
-    subst (IsTask t (suc k)) is
-    (task_at_boot t words one.script (length others + 1) quantum slots (suc k) (Some parked) can (omega arith) (booted_sum image first others quantum slots)
-    (first_is t words first one.script quantum slots (suc k) refl refl) (λ e. absurd (omega arith)) (λ apart none. (let e : Some parked ≡ None = none in cc)) (sized_of (mote_at_boot [] one.script quantum slots) (size_at_boot quantum)))
+    subst (IsTask t (suc k)) is (task_at_boot t one.script (suc k) can (omega arith) (booted_sum image first others quantum slots)
+    (first_is t words first one.script quantum slots (suc k) refl refl) (λ e. absurd (omega arith)) (λ apart none. (let e : Some parked ≡ None = none in cc))
+    (sized_of (mote_at_boot [] one.script quantum slots) (size_at_boot quantum)))
 
-pub sound_at_boot : (image : List ℕ) (first : Schedule) (others : List Schedule) (quantum slots : ℕ) → CanStart (task_words (length others + 1) image) (length others + 1) quantum slots → AreSound (booted image first others quantum slots)
+pub sound_at_boot : (image : List ℕ) (first : Schedule) (others : List Schedule) (quantum slots : ℕ) → CanStart (task_words (length others + 1) image) (length others + 1) quantum slots
+    → AreSound (booted image first others quantum slots)
 sound_at_boot image first others quantum slots can =
     let words = task_words (length others + 1) image in
     let size = waiting_length 1 others quantum slots in
@@ -156,12 +164,14 @@ sound_at_boot image first others quantum slots can =
 
 -- The tasks in turn are at reset. -------------------------------------------------------------------------
 
-waiting_players : (n : ℕ) (t : Tasks) (words : List ℕ) (first : Schedule) (scripts : List Schedule) (quantum slots task : ℕ) → t.kernel ≡ first_kernel words first quantum slots 0 → t.pages ≡ 0 → length words ≤ most_image_words
+waiting_players : (n : ℕ) (t : Tasks) (words : List ℕ) (first : Schedule) (scripts : List Schedule) (quantum slots task : ℕ) → t.kernel ≡ first_kernel words first quantum slots 0 → t.pages ≡ 0
+    → length words ≤ most_image_words
     → players_from n t task (waiting_from task scripts quantum slots) ≡ players_at_reset words task scripts quantum slots n
 waiting_players n t words first [] quantum slots task kernel pages few = refl
 waiting_players n t words first (script ∷ scripts) quantum slots task kernel pages few =
     let parked = Some (parked_at_boot script quantum slots) in
-    ap₂ (λ p l. p ∷ l) (ap (λ (m : Machine). record { program = program_of m.kernel; moment = flat_of m; left = n - 0; end = None }) (first_is t words first script quantum slots task kernel pages) ∙ player_by words script quantum slots task (others_of t (at_start task parked)) n few)
+    ap₂ (λ p l. p ∷ l) (ap (λ (m : Machine). record { program = program_of m.kernel; moment = flat_of m; left = n - 0; end = None }) (first_is t words first script quantum slots task kernel pages)
+    ∙ player_by words script quantum slots task (others_of t (at_start task parked)) n few)
     (waiting_players n t words first scripts quantum slots (task + 1) kernel pages few)
 
 pub turns_at_boot : (n : ℕ) (image : List ℕ) (first : Schedule) (others : List Schedule) (quantum slots : ℕ) → CanStart (task_words (length others + 1) image) (length others + 1) quantum slots

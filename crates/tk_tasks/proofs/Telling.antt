@@ -7,7 +7,7 @@ use Rattle.printed_text.specs.Ends.{end_text}
 use Rattle.mote_devices.specs.declared.line.Line.{Line}
 use Rattle.printed_text.specs.TaskTexts.{device_told, stop_told}
 use Rattle.printed_text.specs.StopLines.{how_text, end_line}
-use Rattle.line_writer.specs.Pieces.{task_text}
+use Rattle.text_lines.specs.Pieces.{task_text}
 use Rattle.printed_text.proofs.StopLines.{line_of}
 use Rattle.parked_tasks.specs.declared.task.TaskEnd.{TaskEnd}
 use Rattle.parked_tasks.specs.declared.task.TaskEnd.TheVariants.{Spent}
@@ -22,7 +22,8 @@ shown_as Spent = refl
 shown_as _ = refl
 
 -- a stop line
-end_line_is : (quantum task : ℕ) (end : TaskEnd) (steps crossings : ℕ) → task_text task ++ end_line (end_shown end) steps (crossings / quantum) ≡ told_text quantum (end_told task (Some end) steps crossings)
+end_line_is : (quantum task : ℕ) (end : TaskEnd) (steps crossings : ℕ) → task_text task
+    ++ end_line (end_shown end) steps (crossings / quantum) ≡ told_text quantum (end_told task (Some end) steps crossings)
 end_line_is quantum task end steps crossings =
     ap (λ l. task_text task ++ l) (line_of (end_shown end) (flat_end end) steps (crossings / quantum) (shown_as end)) ∙ sym (append-nil _)
 

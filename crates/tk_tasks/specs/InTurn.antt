@@ -1,7 +1,7 @@
 -- When lines of tasks go out: at each multiple of 65,536 tries all that was told by then has (docs/TASKS.md, "A run on the mote").
 use Rattle.std.specs.Prelude.{◌≡◌, ℕ, ◌*◌, ◌<◌, List, Option}
 use Rattle.std.specs.Io.KnownBytes.{Appends}
-use Rattle.line_gathering.specs.Gathering.{turn_steps}
+use Rattle.printed_text.specs.Gathering.{turn_steps}
 use Rattle.task_turns.specs.Turns.{tries}
 use Rattle.tk_tasks.specs.States.{Tasks, turns_of}
 use Rattle.tk_tasks.specs.Plays.{told_text}

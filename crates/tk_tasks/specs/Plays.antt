@@ -15,7 +15,7 @@ use Rattle.program_steps.specs.Machines.{Machine}
 use Rattle.program_steps.specs.Ready.{IsGoing}
 use Rattle.program_steps.specs.Stepping.{Goes, IsArrival, AreOwn}
 use Rattle.parked_tasks.specs.declared.task.Task.{Task}
-use Rattle.line_writer.specs.Pieces.{task_text}
+use Rattle.text_lines.specs.Pieces.{task_text}
 use Rattle.task_turns.specs.Turns.{Player, Turns, Shown, Wrote, Stops, Told, Played, Over, Gone, played, once, tries, turns, alone, shown_by, own_told, HaveEnded}
 use Rattle.tk_tasks.specs.States.{Tasks, AreSound, machine_of, player_of, turns_of}
 use Rattle.tk_tasks.specs.Changes.{changed_tasks}

@@ -2,7 +2,7 @@
 
 ghost use Rattle.std.specs.Prelude.{◌≡◌, ℕ, ◌<◌, ◌≤◌, ◌^◌, false, Some, None, slice_get, sum_by};
 ghost use Rattle.byte_streams.specs.Faults.{HasCause};
-ghost use Rattle.line_gathering.specs.Gathering.{Gathers};
+ghost use Rattle.printed_text.specs.Gathering.{Gathers};
 ghost use Rattle.parked_tasks.specs.declared.task.Task.{Task as TaskOf};
 ghost use Rattle.tk_tasks.specs.States.{AreSound};
 ghost use Rattle.tk_tasks.specs.Booted.{IsUnstarted};
@@ -15,8 +15,8 @@ use crate::play::Shown;
 use crate::tasks::Tasks;
 use byte_streams::{Failed, Sink};
 use kernel_entry::{End, Stop};
-use line_gathering::{Gathered, TURN, TaskLines, add_task, send, send_in_turn, up_to_turn};
 use parked_tasks::{Counts, TaskEnd, counts_of};
+use printed_text::{Gathered, TURN, TaskLines, add_task, send, send_in_turn, up_to_turn};
 
 /// A task's end, as its stop line shows it, if it ended.
 fn end_shown(end: Option<TaskEnd>) -> Option<End>

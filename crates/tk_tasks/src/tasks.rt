@@ -7,10 +7,10 @@ ghost use Rattle.tk_tasks.specs.States.{AreSound, turns_of};
 ghost use Rattle.tk_tasks.specs.Booted.{IsUnstarted, booted};
 ghost use Rattle.task_turns.specs.Reset.{turns_at_reset};
 
+use base::NoMemory;
 use hex_image::Image;
 use input_script::Script;
 use kernel_entry::Kernel;
-use no_memory::NoMemory;
 use page_cursor::Cursor;
 use parked_tasks::{Task, boot_tasks};
 use std::alloc::Global;

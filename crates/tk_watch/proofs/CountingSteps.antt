@@ -1,5 +1,5 @@
 -- The steps counted so far.
-use Rattle.std.proofs.Common.{◌≡◌, ℕ, zero, suc, ◌+◌, ◌<◌, ◌≤◌, Bool, true, false, cond, List, [], length, refl, sym, ap, ◌∙◌, subst, arith}
+use Rattle.std.proofs.Common.{◌≡◌, ℕ, zero, suc, ◌+◌, ◌<◌, ◌≤◌, Bool, true, false, cond, List, [], length, refl, sym, ap, ◌∙◌, arith}
 use Rattle.std.specs.Prelude.{◌==◌, ◌&&◌, nat_lt, slice_index, slice_set, Option, Some, None}
 use Rattle.std.proofs.lemmas.Bool.{eq-eqb, eqb-true, lt-ltb}
 use Rattle.std.proofs.lemmas.List.{get_or-set_same, get_or-set_other}
@@ -15,7 +15,7 @@ use Rattle.tk_watch.specs.Turning.{HasTurned}
 use Rattle.tk_watch.specs.ProfileText.{begins_at, times_at}
 use Rattle.tk_watch.specs.Watching.{HasCounted}
 use Rattle.tk_watch.specs.declared.view.View.TheVariants.{Profile}
-use Rattle.tk_watch.proofs.Turns.{AreUntold, HasEnded, gone, ended, bound, left}
+use Rattle.tk_watch.proofs.Turns.{AreUntold, HasEnded, gone, ended, bound, left, some_steps}
 
 profile_untold : (i count : ℕ) → AreUntold Profile i count
 profile_untold i count step from to = tt
@@ -27,9 +27,7 @@ times_by runs a k done is all = ap (λ b. cond (b && ((runs k).state.now.cpu.pc 
 
 pub times_on : (runs : ℕ → Run) (a k m : ℕ) → m ≡ suc k → nat_lt (runs k).state.now.steps (runs m).state.now.steps ≡ true
     → times_at runs a m ≡ cond ((runs k).state.now.cpu.pc == a) (times_at runs a k + 1) (times_at runs a k)
-times_on runs a k m is more =
-    subst (λ j. nat_lt (runs k).state.now.steps (runs j).state.now.steps ≡ true → times_at runs a j ≡ cond ((runs k).state.now.cpu.pc == a) (times_at runs a k + 1) (times_at runs a k)) (sym is)
-    (λ e. times_by runs a k true e refl) more
+times_on runs a k m is more = rw is (times_by runs a k true (rw is at more) refl)
 
 pub record IsCountedSoFar (old now : Machine) (i : ℕ) (counts : List ℕ) : Type 0 where
   pub text : List ℕ
@@ -53,54 +51,41 @@ raised_by : (same : Bool) (counts : List ℕ) (at a now : ℕ) → (at == a) ≡
     → slice_index (slice_set counts at (slice_index counts at + 1)) a ≡ cond (at == a) (now + 1) now
 raised_by true counts at a now is inside was =
     let here : at ≡ a = eqb-true at a is in
-    subst (λ k. slice_index (slice_set counts at (slice_index counts at + 1)) k ≡ cond (at == k) (now + 1) now) here
-    (get_or-set_same counts at (slice_index counts at + 1) 0 inside ∙ ap (λ n. n + 1) (ap (slice_index counts) here ∙ was) ∙ sym (ap (λ b. cond b (now + 1) now) (ap (λ k. at == k) here ∙ is)))
+    rw (← here) (get_or-set_same counts at (slice_index counts at + 1) 0 inside ∙ ap (λ n. n + 1) (ap (slice_index counts) here ∙ was)
+    ∙ sym (ap (λ b. cond b (now + 1) now) (ap (λ k. at == k) here ∙ is)))
 raised_by false counts at a now is inside was =
     get_or-set_other counts at a (slice_index counts at + 1) 0 (λ same. let e : true ≡ false = sym (eq-eqb at a (sym same)) ∙ is in absurd (cc)) ∙ was ∙ sym (ap (λ b. cond b (now + 1) now) is)
 
--- behind a turn of one step
-counted_gone : (old now new : Machine) (i count : ℕ) (line : Option Line) (counts : List ℕ) → length counts ≡ 65536 → now.at < 65536 → count ≤ 1 → IsCountedSoFar old now i counts
-    → HasTurned now new count line → new.end ≡ None → 1 ≤ count
-    → IsCountedSoFar old new (i + 1) (slice_set counts now.at (slice_index counts now.at + 1))
-counted_gone old now new i count line counts size inside few way turned going some =
-    let runs = original_from old in
-    let one : i + count ≡ i + 1 = omega (arith, few, some) in
-    let on = gone Profile old now new i count line way.text (profile_untold i count) way.between turned going in
-    let between : IsBetween old new (i + 1) (Some []) (Some on.text) = subst (λ k. IsBetween old new k (Some []) (Some on.text)) one on.between in
-    let before = left old now i (Some []) (Some way.text) way.between.ran in
-    let after = left old new (i + 1) (Some []) (Some on.text) between.ran in
-    let steps : (runs i).state.now.steps < (runs (i + 1)).state.now.steps =
-    omega (arith, ap (λ (s : Moment). s.now.steps) before, ap (λ (s : Moment). s.now.steps) after, way.between.ran.steps, between.ran.steps) in
-    record {
-      text = on.text;
-      between = between;
-      counted = λ a low.
-          raised_by (now.at == a) counts now.at a (times_at runs a i) refl (omega (arith, size, inside)) (way.counted a low)
-          ∙ sym (times_on runs a i (i + 1) (omega arith) (lt-ltb (runs i).state.now.steps (runs (i + 1)).state.now.steps steps)
-          ∙ ap (λ pc. cond (pc == a) (times_at runs a i + 1) (times_at runs a i)) (ap (λ (s : Moment). s.now.cpu.pc) before));
-    }
-
-pub counted_turned : (old now new : Machine) (i count : ℕ) (line : Option Line) (counts : List ℕ) → length counts ≡ 65536 → now.at < 65536 → count ≤ 1 → IsCountedSoFar old now i counts
-    → HasTurned now new count line → new.end ≡ None → 1 ≤ count
-    → IsCountedSoFar old new (i + count) (slice_set counts now.at (slice_index counts now.at + 1))
-counted_turned old now new i count line counts size inside few way turned going some =
-    let one : i + 1 ≡ i + count = omega (arith, few, some) in
-    subst (λ k. IsCountedSoFar old new k (slice_set counts now.at (slice_index counts now.at + 1))) one (counted_gone old now new i count line counts size inside few way turned going some)
-
--- at an end
-counted_end : (old new : Machine) (i count n : ℕ) (end : End) (counts : List ℕ) → old.steps ≡ 0 → count ≤ 1 → HasEnded Profile old new i count n end
+counted_end : {old new : Machine} {i count n : ℕ} {end : End} {counts : List ℕ} → old.steps ≡ 0 → count ≤ 1 → HasEnded Profile old new i count n end
     → ((a : ℕ) → a < 65536 → slice_index counts a ≡ times_at (original_from old) a i) → HasCounted old new n counts end
-counted_end old new i count n end counts begins few over counted =
+counted_end {old} {new} {i} begins few over counted =
     let all : i ≡ new.steps = omega (arith, over.steps, over.one few, begins) in
     record { text = over.text; advanced = over.advanced; counted = λ a low. counted a low ∙ ap (times_at (original_from old) a) all }
 
-pub counted_ended : (old now new : Machine) (i count n : ℕ) (line : Option Line) (end : End) (counts : List ℕ) → old.steps ≡ 0 → old.end ≡ None → old.broken ≡ false → i < n → count ≤ 1
-    → IsCountedSoFar old now i counts → HasTurned now new count line → new.end ≡ Some end → HasCounted old new n counts end
-counted_ended old now new i count n line end counts begins going whole below few way turned over =
-    counted_end old new i count n end counts begins few (ended Profile old now new i count n line end way.text (profile_untold i count) going whole below
-    (omega (arith, below, few)) way.between turned over) way.counted
+module _ {old now new : Machine} {i count : ℕ} {line : Option Line} {counts : List ℕ} (few : count ≤ 1) (way : IsCountedSoFar old now i counts) (turned : HasTurned now new count line) where
+  -- behind a turn of one step
+  pub counted_turned : length counts ≡ 65536 → now.at < 65536 → new.end ≡ None → IsCountedSoFar old new (i + count) (slice_set counts now.at (slice_index counts now.at + 1))
+  counted_turned size inside going =
+      let runs = original_from old in
+      let on = gone {view = Profile} (profile_untold i count) way.between turned going in
+      let before = left way.between.ran in
+      let after = left on.between.ran in
+      let some = some_steps turned going in
+      let steps : (runs i).state.now.steps < (runs (i + count)).state.now.steps =
+      omega (arith, some, ap (λ (s : Moment). s.now.steps) before, ap (λ (s : Moment). s.now.steps) after, way.between.ran.steps, on.between.ran.steps) in
+      record {
+        text = on.text;
+        between = on.between;
+        counted = λ a low.
+            raised_by (now.at == a) counts now.at a (times_at runs a i) refl (omega (arith, size, inside)) (way.counted a low)
+            ∙ sym (times_on runs a i (i + count) (omega (arith, few, some)) (lt-ltb (runs i).state.now.steps (runs (i + count)).state.now.steps steps)
+            ∙ ap (λ pc. cond (pc == a) (times_at runs a i + 1) (times_at runs a i)) (ap (λ (s : Moment). s.now.cpu.pc) before));
+      }
 
-pub counted_bound : (old now new : Machine) (n : ℕ) (end : End) (counts : List ℕ) → old.steps ≡ 0 → old.end ≡ None → old.broken ≡ false → IsCountedSoFar old now n counts → HasBound now new end
+  -- at an end
+  pub counted_ended : {n : ℕ} {end : End} → old.steps ≡ 0 → old.end ≡ None → old.broken ≡ false → i < n → new.end ≡ Some end → HasCounted old new n counts end
+  counted_ended begins going whole below over = counted_end begins few (ended (profile_untold i count) going whole below (omega (arith, below, few)) way.between turned over) way.counted
+
+pub counted_bound : {old now new : Machine} {n : ℕ} {end : End} {counts : List ℕ} → old.steps ≡ 0 → old.end ≡ None → old.broken ≡ false → IsCountedSoFar old now n counts → HasBound now new end
     → HasCounted old new n counts end
-counted_bound old now new n end counts begins going whole way is =
-    counted_end old new n 0 n end counts begins (omega arith) (bound Profile old now new n end way.text going whole way.between is) way.counted
+counted_bound {n = n} begins going whole way is = counted_end {count = 0} begins (omega arith) (bound going whole way.between is) way.counted

@@ -9,16 +9,15 @@ use Rattle.heap_frames.proofs.MemoryLaws.{no_byte, vmem_byte}
 use Rattle.flat_machine.specs.declared.address.AddrClass.TheVariants.{Stack, Heap}
 use Rattle.flat_machine.specs.Classes.{class_of}
 use Rattle.flat_machine.proofs.ClassLaws.{chosen, low_stack, low_heap}
-use Rattle.line_writer.specs.Pieces.{address_text}
+use Rattle.text_lines.specs.Pieces.{address_text}
 use Rattle.tk_watch.specs.MemoryText.{byte_told, is_filled, row_text}
 use Rattle.tk_watch.specs.Rows.{rows}
 
 neither : (p q s h : Bool) → (chosen p q s h ≡ Stack → ⊥) → (chosen p q s h ≡ Heap → ⊥) → p ≡ false → q ≡ false → (s ≡ false) × (h ≡ false)
-neither true q s h no_stack no_heap low core = absurd (cc)
-neither false true s h no_stack no_heap low core = absurd (cc)
 neither false false true h no_stack no_heap low core = absurd (no_stack refl)
 neither false false false true no_stack no_heap low core = absurd (no_heap refl)
 neither false false false false no_stack no_heap low core = (refl, refl)
+neither _ _ _ _ no_stack no_heap low core = absurd (cc)
 
 low_byte : (m : List ℕ) (w : List (List ℕ)) (a : ℕ) → a < 256 → slice_index (vmem m w) a ≡ 0
 low_byte m w a below = vmem_byte m w a (omega arith) ∙ no_byte m w a (low_stack a below) (low_heap a below)
@@ -51,8 +50,8 @@ filled_next byte i v filled is same =
     ap₂ (λ a b. a || not (b == 0)) is same ∙ ap (is_filled byte) next
 
 -- a row that is told, and one that isn't
-pub row_told : (memory text line : List ℕ) (at i : ℕ) → i ≡ 16 → true ≡ is_filled (λ k. slice_index memory (at + k)) i → text ≡ address_text at
-    ++ rows (λ k. byte_told (slice_index memory (at + k))) i → line ≡ text ++ codes "\n" → line ≡ row_text memory at
+pub row_told : (memory text line : List ℕ) (at i : ℕ) → i ≡ 16 → true ≡ is_filled (λ k. slice_index memory (at + k)) i
+    → text ≡ address_text at ++ rows (λ k. byte_told (slice_index memory (at + k))) i → line ≡ text ++ codes "\n" → line ≡ row_text memory at
 unfolding row_text
 row_told memory text line at i all filled was is =
     let some : is_filled (λ k. slice_index memory (at + k)) 16 ≡ true = ap (is_filled (λ k. slice_index memory (at + k))) (sym all) ∙ sym filled in

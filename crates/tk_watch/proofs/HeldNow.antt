@@ -1,5 +1,5 @@
 -- Bytes that are read one after the other, and kept as they are now.
-use Rattle.std.proofs.Common.{◌≡◌, ℕ, suc, zero, ◌+◌, ◌-◌, ◌<◌, ◌≤◌, cond, List, [], ◌++◌, length, sym, ap, ◌∙◌, subst, arith, inl, inr, append-nil}
+use Rattle.std.proofs.Common.{◌≡◌, ℕ, suc, zero, ◌+◌, ◌-◌, ◌<◌, ◌≤◌, cond, List, [], ◌++◌, length, sym, ap, ◌∙◌, arith, inl, inr, append-nil}
 use Rattle.std.specs.Prelude.{slice_index, slice_set}
 use Rattle.std.proofs.lemmas.Bool.{cases_lt, eq-eqb}
 use Rattle.std.proofs.lemmas.List.{get_or-set_same, get_or-set_other, length-set}
@@ -17,7 +17,7 @@ now_next memory bytes from at i v inside value held j above below = elim (cases_
   | inl earlier ↦ get_or-set_other bytes i j v 0 (λ same. omega (arith, same, earlier)) ∙ held j above earlier
   | inr later ↦
       let same : i ≡ j = omega (arith, below, later) in
-      subst (λ k. slice_index (slice_set bytes i v) k ≡ slice_index memory (at + k)) same (get_or-set_same bytes i v 0 inside ∙ value)
+      rw (← same) (get_or-set_same bytes i v 0 inside ∙ value)
 ]
 
 -- those behind stay

@@ -28,8 +28,7 @@ behind_line None r longer grows = grows
 behind_line (Some line) r longer grows = (grows.0, ap (λ lines. line ∷ lines) grows.1)
 
 grows_by : (program : Program) (m : Moment) (n : ℕ) (inside : Bool) (next : Next) → is_inside program m.now.cpu.pc ≡ inside → next_of program m ≡ next
-    → ((later : Moment) → Grows (run program later n) (run program later (suc n)))
-    → Grows (run program m (suc n)) (run program m (suc (suc n)))
+    → ((later : Moment) → Grows (run program later n) (run program later (suc n))) → Grows (run program m (suc n)) (run program m (suc (suc n)))
 grows_by program m n false next outside is earlier = same_lines _ _ (run_wild program m (suc (suc n)) outside ∙ sym (run_wild program m (suc n) outside))
 grows_by program m n true (Ends end) inside is earlier = same_lines _ _ (run_stops program m (suc n) end inside is ∙ sym (run_stops program m n end inside is))
 grows_by program m n true (On line later) inside is earlier =
@@ -54,13 +53,11 @@ both_numbered (line ∷ a) b first second (step, rest, is, behind) others =
     (step, rest ++ second, ap (λ z. z ++ second) is ∙ append_assoc (numbered_line step line) rest second, both_numbered a b rest second behind others)
 
 all_numbered : (runs : ℕ → Run) → (runs 0).lines ≡ [] → ((k : ℕ) → Grows (runs k) (runs (suc k))) → (n : ℕ) → TellsNumbered (runs n).lines (told_text Lines runs n)
-all_numbered runs none more zero = subst (λ lines. TellsNumbered lines []) (sym none) refl
+all_numbered runs none more zero = rw none refl
 all_numbered runs none more (suc k) =
     let grown = more k in
-    let behind : lines_behind runs k ≡ grown.0 = lines_of_step runs k grown.0 grown.1 in
     let both = both_numbered (runs k).lines grown.0 (told_text Lines runs k) (flat_map (numbered_line (suc k)) grown.0) (all_numbered runs none more k) (each_numbered (suc k) grown.0) in
-    let text = ap (λ lines. told_text Lines runs k ++ flat_map (numbered_line (suc k)) lines) (sym behind) in
-    subst (λ t. TellsNumbered (runs (suc k)).lines t) text (subst (λ lines. TellsNumbered lines (told_text Lines runs k ++ flat_map (numbered_line (suc k)) grown.0)) (sym grown.1) both)
+    rw (lines_of_step runs k grown.0 grown.1, grown.1) both
 
 -- of the original program
 pub tells_all : (program : Program) (events : List Event) (n : ℕ) → TellsNumbered (original program events n).lines (told_text Lines (original program events) n)

@@ -1,26 +1,27 @@
 -- Texts with a part for each number, some of which were gathered.
-use Rattle.std.proofs.Common.{◌≡◌, ℕ, zero, suc, ◌+◌, ◌-◌, ◌<◌, List, [], ◌++◌, refl, sym, ap, ap₂, ◌∙◌, subst, append_assoc, arith}
+use Rattle.std.proofs.Common.{◌≡◌, ℕ, zero, suc, ◌+◌, ◌-◌, ◌<◌, List, [], ◌++◌, refl, sym, ap, ap₂, ◌∙◌, append_assoc, arith}
 use Rattle.std.specs.Prelude.{Option}
 use Rattle.std.proofs.lemmas.List.{append-nil}
 use Rattle.byte_streams.specs.Streams.{CutShort, IsSent}
 use Rattle.byte_streams.proofs.KnownBytes.{nothing_sent}
-use Rattle.line_gathering.proofs.Gathered.{sent_on, cut_on, cut_less}
+use Rattle.printed_text.proofs.Gathered.{sent_on, cut_on, cut_less}
 use Rattle.tk_watch.specs.Rows.{rows}
 
 pub rows_begin : (row : ℕ → List ℕ) (gathered : List ℕ) (known : Option (List ℕ)) → IsSent (gathered ++ rows row 0) gathered known known
 unfolding rows
-rows_begin row gathered known = subst (λ z. IsSent z gathered known known) (sym (append-nil gathered)) (nothing_sent gathered known)
+rows_begin row gathered known = rw (append-nil gathered) (nothing_sent gathered known)
 
 pub rows_on : (row : ℕ → List ℕ) (a m : ℕ) → m ≡ suc a → rows row m ≡ rows row a ++ row a
 unfolding rows
 rows_on row a m is = ap (rows row) is
 
--- behind one more
-pub rows_next : (row : ℕ → List ℕ) (at : ℕ) (front gathered left : List ℕ) (before after later : Option (List ℕ)) → IsSent (front ++ rows row at) gathered before after
+-- behind some front, one more
+one_more : (row : ℕ → List ℕ) (front : List ℕ) (at : ℕ) → (front ++ rows row at) ++ row at ≡ front ++ rows row (at + 1)
+one_more row front at = append_assoc front (rows row at) (row at) ∙ ap (λ z. front ++ z) (sym (rows_on row at (at + 1) (omega arith)))
+
+pub rows_next : {gathered left : List ℕ} {before after later : Option (List ℕ)} (row : ℕ → List ℕ) (front : List ℕ) (at : ℕ) → IsSent (front ++ rows row at) gathered before after
     → IsSent (gathered ++ row at) left after later → IsSent (front ++ rows row (at + 1)) left before later
-rows_next row at front gathered left before after later first second =
-    let whole : (front ++ rows row at) ++ row at ≡ front ++ rows row (at + 1) = append_assoc front (rows row at) (row at) ∙ ap (λ z. front ++ z) (sym (rows_on row at (at + 1) (omega arith))) in
-    subst (λ z. IsSent z left before later) whole (sent_on (front ++ rows row at) gathered (row at) left before after later first second)
+rows_next {gathered} {left} {before} {after} {later} row front at first second = rw (one_more row front at) at (sent_on (front ++ rows row at) gathered (row at) left before after later first second)
 
 -- those of more numbers begin with those of fewer
 rows_front : (row : ℕ → List ℕ) (a k m : ℕ) → m ≡ k + a → (rest : List ℕ) × (rows row m ≡ rows row a ++ rest)
@@ -30,14 +31,13 @@ rows_front row a (suc k) m is =
     (earlier.0 ++ row (k + a), rows_on row (k + a) m (omega (arith, is)) ∙ ap (λ z. z ++ row (k + a)) earlier.1 ∙ append_assoc (rows row a) earlier.0 (row (k + a)))
 
 -- one was cut short, and with it all
-pub rows_cut : (row : ℕ → List ℕ) (at all : ℕ) (front gathered : List ℕ) (before after later : Option (List ℕ)) → at < all → IsSent (front ++ rows row at) gathered before after
-    → CutShort after later (gathered ++ row at) → CutShort before later (front ++ rows row all)
-rows_cut row at all front gathered before after later below first cut =
+pub rows_cut : {gathered : List ℕ} {before after : Option (List ℕ)} (row : ℕ → List ℕ) (front : List ℕ) (at all : ℕ) (later : Option (List ℕ)) → at < all
+    → IsSent (front ++ rows row at) gathered before after → CutShort after later (gathered ++ row at) → CutShort before later (front ++ rows row all)
+rows_cut {gathered} {before} {after} row front at all later below first cut =
     let rest = rows_front row (at + 1) (all - (at + 1)) all (omega (arith, below)) in
-    let one : (front ++ rows row at) ++ row at ≡ front ++ rows row (at + 1) = append_assoc front (rows row at) (row at) ∙ ap (λ z. front ++ z) (sym (rows_on row at (at + 1) (omega arith))) in
-    let shorter = subst (CutShort before later) one (cut_on (front ++ rows row at) gathered (row at) before after later first cut) in
+    let shorter = rw (one_more row front at) at (cut_on (front ++ rows row at) gathered (row at) before after later first cut) in
     let whole : (front ++ rows row (at + 1)) ++ rest.0 ≡ front ++ rows row all = append_assoc front (rows row (at + 1)) rest.0 ∙ ap (λ z. front ++ z) (sym rest.1) in
-    subst (CutShort before later) whole (cut_less before later (front ++ rows row (at + 1)) rest.0 shorter)
+    rw whole at (cut_less before later (front ++ rows row (at + 1)) rest.0 shorter)
 
 -- equal parts
 pub rows_same : (row other : ℕ → List ℕ) (n : ℕ) → ((a : ℕ) → a < n → row a ≡ other a) → rows row n ≡ rows other n
@@ -53,4 +53,4 @@ row_begins row front text is = is ∙ sym (append-nil front)
 
 pub row_goes_on : (row : ℕ → List ℕ) (i : ℕ) (front before after piece : List ℕ) → before ≡ front ++ rows row i → after ≡ before ++ piece → piece ≡ row i → after ≡ front ++ rows row (i + 1)
 row_goes_on row i front before after piece was is same =
-    is ∙ ap₂ (λ a b. a ++ b) was same ∙ append_assoc front (rows row i) (row i) ∙ ap (λ z. front ++ z) (sym (rows_on row i (i + 1) (omega arith)))
+    is ∙ ap₂ (λ a b. a ++ b) was same ∙ one_more row front i

@@ -30,7 +30,7 @@ use Rattle.tk_watch.specs.StepTexts.{told_text}
 use Rattle.tk_watch.specs.Views.{Shows, left_text, shown}
 use Rattle.tk_watch.specs.Watching.{AreCounted, HasCounted, HasRun, HasShown, HasWatched, IsStart, kept_end, stop_of}
 use Rattle.tk_watch.proofs.ProfileLaws.{profile_same, times_same}
-use Rattle.tk_watch.proofs.Stops.{answers_kept, shows_by}
+use Rattle.tk_watch.proofs.Stops.{SaysShown, answers_kept, shows_by}
 use Rattle.tk_watch.proofs.ToldLaws.{none_told, told_same}
 
 abbrev pub start_of : Request → Machine
@@ -42,31 +42,12 @@ from_boot request image kept k =
     let whole : IsWhole (new_flash request.image request.script.failing) = kept.sound.order.whole in
     run_start request.image (new_flash request.image request.script.failing) request.script request.options.quantum request.options.swap 0 k (begun_boot request.image request.script image whole)
 
--- what was said of a run from boot, as the text of a view
-shown_by : (view : View) (request : Request) (m : Machine) (text said_text : List ℕ) (end : End) (before now : Stream) (told : Status) → IsImage request.image → IsKept (start_of request)
-    → request.options.steps ≤ 10 ^ 9
-    → HasAdvanced (start_of request) m request.options.steps (Some []) (Some text) (Ok end) → said_text ≡ shown view request m.kernel.mote.flash.ops (flat_of m)
-    → Says (status_of_stop end) (said_text ++ stop_of end m) before now told → Shows view request before now told
-shown_by view request m text said_text end before now told image kept bound advanced is said =
-    let old = start_of request in
-    let runs = ran_silently request (Ok end) m image kept bound (advanced_whole old m request.options.steps end text None None advanced tt) (record { later = omega arith; failed = tt }) in
-    let ran = advanced.ran refl in
-    let ended : kept_end m.end ≡ end = answers_kept old m request.options.steps ran.done advanced.lines end ran.answers in
-    let same = subst (λ e. Says (status_of_stop e) (said_text ++ stop_of e m) before now told) (sym ended) said in
-    shows_by view request m runs.0 told before now runs.1 (subst (λ t. Says (status_of_stop (kept_end m.end)) (t ++ stop_of (kept_end m.end) m) before now told) is same)
-
 -- a profile's steps were counted, and nothing was told of them
 pub profile_run : (old new : Machine) (n : ℕ) (counts gathered : List ℕ) (known : Option (List ℕ)) (end : End) → gathered ≡ [] → HasCounted old new n counts end
     → HasRun Profile old new n counts gathered known known (Ok end)
-profile_run old new n counts gathered known end empty counted = (
-  record {
-    text = counted.text;
-    advanced = counted.advanced;
-    sent = subst (λ z. IsSent z gathered known known) (empty ∙ sym (none_told (original_from old) new.steps))
-        (nothing_sent gathered known);
-  },
-  counted.counted,
-)
+profile_run old new n counts gathered known end empty counted =
+    let sent = subst (λ z. IsSent z gathered known known) (empty ∙ sym (none_told (original_from old) new.steps)) (nothing_sent gathered known) in
+    (record { text = counted.text; advanced = counted.advanced; sent = sent }, counted.counted)
 
 -- .. and another view counts none
 uncounted : (view : View) (times : ℕ → ℕ) (counts : List ℕ) → (view ≡ Profile → ⊥) → AreCounted view times counts
@@ -90,33 +71,40 @@ left_of_same : (view : View) (slots events : ℕ) (runs others : ℕ → Run) �
 left_of_same Profile slots events runs others same n operations s = profile_same (λ a. times_at runs a n) (λ a. times_at others a n) (λ a below. times_same runs others same a n)
 left_of_same _ slots events runs others same n operations s = refl
 
-pub view_shown : (view : View) (request : Request) (m : Machine) (before now : Stream) (told : Status) → IsImage request.image → IsKept (start_of request) → request.options.steps ≤ 10 ^ 9
-    → HasShown view request.options.swap (length request.script.events) (start_of request) m request.options.steps before now told → Shows view request before now told
-view_shown view request m before now told image kept bound (HasShown.Whole text end advanced said) =
-    let slots = request.options.swap in
-    let events = length request.script.events in
-    let runs = original_from (start_of request) in
-    let own = original_of request in
-    let ops = m.kernel.mote.flash.ops in
-    let shown_of = told_text view runs m.steps ++ left_text view slots events (λ a. times_at runs a m.steps) ops (flat_of m).now in
-    let same = ap₂ (λ a b. a ++ b) (told_same view runs own (from_boot request image kept) m.steps)
-    (left_of_same view slots events runs own (from_boot request image kept) m.steps ops (flat_of m).now) in
-    let parts : told_text view runs m.steps ++ (left_text view slots events (λ a. times_at runs a m.steps) ops (flat_of m).now ++ stop_of end m) ≡ shown_of ++ stop_of end m =
-    sym (append_assoc (told_text view runs m.steps) (left_text view slots events (λ a. times_at runs a m.steps) ops (flat_of m).now) (stop_of end m)) in
-    shown_by view request m text shown_of end before now told image kept bound advanced same (subst (λ t. Says (status_of_stop end) t before now told) parts said)
-view_shown view request m before now told image kept bound (HasShown.Cut is rose cut) =
-    let same = told_same view (original_from (start_of request)) (original_of request) (from_boot request image kept) cut.done in
-    Shows.Cut (record { status_is = is; rose = rose; done = cut.done; within = cut.within; put = subst (CutShort before.told now.told) same cut.put })
+module _ (view : View) (request : Request) (m : Machine) (before now : Stream) (told : Status) (image : IsImage request.image) (kept : IsKept (start_of request))
+    (bound : request.options.steps ≤ 10 ^ 9) where
+  -- what was said of a run from boot, as the text of a view
+  shown_by : (text said_text : List ℕ) (end : End) → HasAdvanced (start_of request) m request.options.steps (Some []) (Some text) (Ok end)
+      → said_text ≡ shown view request m.kernel.mote.flash.ops (flat_of m) → Says (status_of_stop end) (said_text ++ stop_of end m) before now told → Shows view request before now told
+  shown_by text said_text end advanced is said =
+      let old = start_of request in
+      let runs = ran_silently request (Ok end) m image kept bound (advanced_whole old m request.options.steps end text None None advanced tt) (record { later = omega arith; failed = tt }) in
+      let ran = advanced.ran refl in
+      let ended : kept_end m.end ≡ end = answers_kept old m request.options.steps ran.done advanced.lines end ran.answers in
+      shows_by view request m runs.0 told before now runs.1 (subst (λ e. SaysShown view request m e before now told) (sym ended) (rw is at said))
+
+  pub view_shown : HasShown view request.options.swap (length request.script.events) (start_of request) m request.options.steps before now told → Shows view request before now told
+  view_shown (HasShown.Whole text end advanced said) =
+      let slots = request.options.swap in
+      let events = length request.script.events in
+      let runs = original_from (start_of request) in
+      let own = original_of request in
+      let ops = m.kernel.mote.flash.ops in
+      let steps_text = told_text view runs m.steps in
+      let left = left_text view slots events (λ a. times_at runs a m.steps) ops (flat_of m).now in
+      let same = ap₂ (λ a b. a ++ b) (told_same view runs own (from_boot request image kept) m.steps)
+      (left_of_same view slots events runs own (from_boot request image kept) m.steps ops (flat_of m).now) in
+      shown_by text (steps_text ++ left) end advanced same (subst (λ t. Says (status_of_stop end) t before now told) (sym (append_assoc steps_text left (stop_of end m))) said)
+  view_shown (HasShown.Cut is rose cut) =
+      let same = told_same view (original_from (start_of request)) (original_of request) (from_boot request image kept) cut.done in
+      Shows.Cut (record { status_is = is; rose = rose; done = cut.done; within = cut.within; put = subst (CutShort before.told now.told) same cut.put })
 
 -- .. of a machine from boot, if memory served
 pub request_shown : {E : Type 0} (view : View) (request : Request) (begun : Result Start E) (events : ℕ) (before now : Stream) (told : Status) → IsImage request.image → AreOptions request.options
-    → events ≡ length request.script.events
-    → IfOk begun (λ s. whole s.kernel s.progress ≡ start_of request) → IfOk begun (λ s. IsStart (whole s.kernel s.progress) s.counts.items)
+    → events ≡ length request.script.events → IfOk begun (λ s. whole s.kernel s.progress ≡ start_of request) → IfOk begun (λ s. IsStart (whole s.kernel s.progress) s.counts.items)
     → MatchResult begun (λ s. (new : Machine) × HasShown view request.options.swap events (whole s.kernel s.progress) new request.options.steps before now told)
     (λ none. Says NoMemory (codes "no memory\n") before now told)
     → Shows view request before now told ⊎ Says NoMemory (codes "no memory\n") before now told
 request_shown view request (Ok s) events before now told image options same booted start shown =
-    let counted = subst (λ n. HasShown view request.options.swap n (whole s.kernel s.progress) shown.0 request.options.steps before now told) same shown.1 in
-    inl (view_shown view request shown.0 before now told image (subst IsKept booted start.kept) (omega (arith, options.2))
-    (subst (λ m. HasShown view request.options.swap (length request.script.events) m shown.0 request.options.steps before now told) booted counted))
+    inl (view_shown view request shown.0 before now told image (rw booted at start.kept) (omega (arith, options.2)) (rw (same, booted) at shown.1))
 request_shown view request (Err e) events before now told image options same booted start shown = inr shown

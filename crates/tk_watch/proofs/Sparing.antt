@@ -2,6 +2,7 @@
 use Rattle.std.proofs.Common.{◌≡◌, ℕ, ◌+◌, ◌/◌, ◌%◌, Bool, true, false, cond, List, refl, sym, ap, ◌∙◌, arith, inl, inr}
 use Rattle.std.specs.Prelude.{◌||◌, ◌&&◌, not, slice_index, slice_set, Option, Some, None}
 use Rattle.std.proofs.lemmas.List.{get_or-set_other}
+use Rattle.std.proofs.lemmas.Bool.{cond_both}
 use Rattle.avr_isa.specs.declared.form.Form.{Form}
 use Rattle.avr_isa.specs.declared.form.Form.TheVariants.{Sleep, Spm}
 use Rattle.avr_isa.specs.Addresses.{wrapping_sum, wrapping_difference}
@@ -9,8 +10,7 @@ use Rattle.avr_decode.specs.Program.{instruction_at}
 use Rattle.avr_exec.specs.declared.answer.Answer.TheVariants.{Address, Byte, Done}
 use Rattle.avr_exec.specs.declared.cpu.Cpu.{Cpu}
 use Rattle.avr_exec.specs.declared.ask.Ask.{Ask}
-use Rattle.avr_exec.specs.declared.ask.Ask.TheVariants.{Nothing, Load, Store, Modify, PushByte, PopByte, PushReturn, PopReturn, Program as ProgramAsk, ExtendedProgram, ExtendedProgramRaising}
-use Rattle.avr_exec.specs.declared.stop.BusStop.{BusStop}
+use Rattle.avr_exec.specs.declared.ask.Ask.TheVariants.{Load, Store, Modify, PushByte, PopByte, PushReturn, PopReturn}
 use Rattle.avr_exec.specs.declared.stop.BusStop.TheVariants.{Stack as StackStop, SwapFull as FullStop}
 use Rattle.avr_exec.specs.Asks.{ask_of}
 use Rattle.avr_exec.specs.Execution.{answer_of, exec_of}
@@ -26,16 +26,13 @@ use Rattle.mote_devices.specs.Accesses.{Asked, Gave, Refused, read, write, modif
 use Rattle.mote_devices.specs.Waking.{wake}
 use Rattle.flat_machine.specs.Addresses.{is_stack, is_heap}
 use Rattle.flat_machine.specs.FlatSpace.{FlatSpace, flat_calls, flat_stack, from_device, has_page, has_room, store_to_heap, to_device, with_memory, with_page}
-use Rattle.flat_machine.specs.FlatMachine.{Asleep, End, FlatState, Goes, Halted, Moment, On, Program, Stops, Tried, Wakes, executed, foreign_word, interrupted, is_checkpoint, is_taken, jumps_to_itself, next_by, next_of, next_size, read_or_executed, slept_by, space_of, stepped, tried, tried_form}
+use Rattle.flat_machine.specs.FlatMachine.{Asleep, FlatState, Goes, Moment, On, Program, Stops, Tried, Wakes, executed, foreign_word, interrupted, is_checkpoint, is_taken, jumps_to_itself, next_by}
+use Rattle.flat_machine.specs.FlatMachine.{next_of, next_size, read_or_executed, slept_by, space_of, stepped, tried, tried_form}
 use Rattle.tk_watch.specs.Touching.{IsTouched}
 
 -- the byte at an address is this one
 abbrev HasByte : (a v : ℕ) → FlatSpace → Type 0
 HasByte a v space = slice_index space.memory a ≡ v
-
--- a store that is made, where there is room, or stops
-abbrev stores_or : Bool → FlatSpace → BusStop → Outcome FlatSpace (Unit {0})
-stores_or room s stop = cond room (Went tt s) (Stopped stop)
 
 -- one byte of memory becomes another
 set_byte : (memory : List ℕ) (a b v w : ℕ) → ¬ (b ≡ a) → slice_index memory b ≡ w → slice_index (slice_set memory a v) b ≡ w
@@ -49,65 +46,43 @@ device_writes : (b w a : ℕ) (s : FlatSpace) (asked : Asked (Option Line)) → 
 device_writes b w a s (Gave line next) is = is
 device_writes b w a s Refused is = tt
 
-loads : (held : Bool) (b w a : ℕ) (s : FlatSpace) → HasByte b w s → Leaves (HasByte b w) (cond held (Went (slice_index s.memory a) s) (from_device s a (read s.devices a)))
-loads true b w a s is = is
-loads false b w a s is = device_reads b w a s (read s.devices a) is
-
-heap_stores : (room : Bool) (b w a v : ℕ) (s : FlatSpace) → ¬ (b ≡ a) → HasByte b w s → Leaves (HasByte b w) (stores_or room (with_memory (with_page s a) a v) (FullStop a))
-heap_stores true b w a v s apart is = set_byte s.memory a b v w apart is
-heap_stores false b w a v s apart is = tt
-
-stores : (stack heap : Bool) (b w a v : ℕ) (s : FlatSpace) → ¬ (b ≡ a) → HasByte b w s
-    → Leaves (HasByte b w) (cond stack (Went tt (with_memory s a v)) (cond heap (store_to_heap s a v) (to_device s a (write s.devices a v))))
-stores true heap b w a v s apart is = set_byte s.memory a b v w apart is
-stores false true b w a v s apart is = heap_stores (has_page s a || has_room s) b w a v s apart is
-stores false false b w a v s apart is = device_writes b w a s (write s.devices a v) is
-
-pushes : (holds : Bool) (b w sp v : ℕ) (s : FlatSpace) → ¬ (b ≡ sp) → HasByte b w s → Leaves (HasByte b w) (stores_or holds (with_memory s sp v) (StackStop sp))
-pushes true b w sp v s apart is = set_byte s.memory sp b v w apart is
-pushes false b w sp v s apart is = tt
-
-pops : (holds : Bool) (b w a v : ℕ) (s : FlatSpace) → HasByte b w s → Leaves (HasByte b w) (cond holds (Went v s) (Stopped (StackStop a)))
-pops true b w a v s is = is
-pops false b w a v s is = tt
+either : {A : Type 0} (b w : ℕ) (test : Bool) (o p : Outcome FlatSpace A) → Leaves (HasByte b w) o → Leaves (HasByte b w) p → Leaves (HasByte b w) (cond test o p)
+either b w true o p left other = left
+either b w false o p left other = other
 
 -- the address below, where there is one in the stack
 below_apart : (b sp : ℕ) → is_stack sp ≡ true → ¬ (b + 1 ≡ sp) → ¬ (b ≡ wrapping_difference sp 1)
 below_apart b sp stack apart same = apart (omega (arith, same, stack_from sp stack, stack_to sp stack))
 
-returns_pushed : (first second : Bool) (b w sp low high : ℕ) (s : FlatSpace) → is_stack sp ≡ first → ¬ (b ≡ sp) → ¬ (b + 1 ≡ sp) → HasByte b w s
-    → Leaves (HasByte b w) (cond first (stores_or second (with_memory (with_memory s sp low) (wrapping_difference sp 1) high) (StackStop (wrapping_difference sp 1))) (Stopped (StackStop sp)))
-returns_pushed true true b w sp low high s stack apart below is =
-    set_byte (slice_set s.memory sp low) (wrapping_difference sp 1) b high w (below_apart b sp stack below) (set_byte s.memory sp b low w apart is)
-returns_pushed true false b w sp low high s stack apart below is = tt
-returns_pushed false second b w sp low high s stack apart below is = tt
-
-returns_popped : (first second : Bool) (b w a c v : ℕ) (s : FlatSpace) → HasByte b w s
-    → Leaves (HasByte b w) (cond first (cond second (Went v s) (Stopped (StackStop c))) (Stopped (StackStop a)))
-returns_popped true true b w a c v s is = is
-returns_popped true false b w a c v s is = tt
-returns_popped false second b w a c v s is = tt
-
 -- the one answer leaves each byte that isn't touched
 answer_spares : (ask : Ask) (b w : ℕ) (s : FlatSpace) → ¬ IsTouched ask b → HasByte b w s → Leaves (HasByte b w) (answer_of flat_calls s ask)
 unfolding answer_of push_on pop_from push_return_on pop_return_from
-answer_spares Nothing b w s apart is = is
-answer_spares (Load a) b w s apart is = answered_by-leaves (HasByte b w) Byte (flat_calls.load s a) (loads (is_stack a || is_heap a) b w a s is)
-answer_spares (Store a v) b w s apart is = answered_by-leaves (HasByte b w) (λ _. Done) (flat_calls.store s a v) (stores (is_stack a) (is_heap a) b w a v s apart is)
+answer_spares (Load a) b w s apart is =
+    answered_by-leaves (HasByte b w) Byte (flat_calls.load s a) (either b w (is_stack a || is_heap a) (Went (slice_index s.memory a) s) (from_device s a (read s.devices a)) is
+    (device_reads b w a s (read s.devices a) is))
+answer_spares (Store a v) b w s apart is =
+    let stored = set_byte s.memory a b v w apart is in
+    answered_by-leaves (HasByte b w) (λ _. Done) (flat_calls.store s a v)
+    (either b w (is_stack a) (Went tt (with_memory s a v)) (cond (is_heap a) (store_to_heap s a v) (to_device s a (write s.devices a v))) stored
+    (either b w (is_heap a) (store_to_heap s a v) (to_device s a (write s.devices a v))
+    (either b w (has_page s a || has_room s) (Went tt (with_memory (with_page s a) a v)) (Stopped (FullStop a)) stored tt) (device_writes b w a s (write s.devices a v) is)))
 answer_spares (Modify a clear set) b w s apart is =
     answered_by-leaves (HasByte b w) (λ _. Done) (to_device s a (modify_device s.devices a clear set)) (device_writes b w a s (modify_device s.devices a clear set) is)
-answer_spares (PushByte sp v) b w s apart is = answered_by-leaves (HasByte b w) (λ _. Done) (push_on flat_stack s sp v) (pushes (is_stack sp) b w sp v s apart is)
+answer_spares (PushByte sp v) b w s apart is =
+    answered_by-leaves (HasByte b w) (λ _. Done) (push_on flat_stack s sp v) (either b w (is_stack sp) (Went tt (with_memory s sp v)) (Stopped (StackStop sp)) (set_byte s.memory sp b v w apart is) tt)
 answer_spares (PopByte sp) b w s apart is =
-    answered_by-leaves (HasByte b w) Byte (pop_from flat_stack s sp) (pops (is_stack (wrapping_sum sp 1)) b w (wrapping_sum sp 1) (slice_index s.memory (wrapping_sum sp 1)) s is)
+    let a = wrapping_sum sp 1 in
+    answered_by-leaves (HasByte b w) Byte (pop_from flat_stack s sp) (either b w (is_stack a) (Went (slice_index s.memory a) s) (Stopped (StackStop a)) is tt)
 answer_spares (PushReturn sp ret) b w s apart is =
-    answered_by-leaves (HasByte b w) (λ _. Done) (push_return_on flat_stack s sp ret)
-    (returns_pushed (is_stack sp) (is_stack (wrapping_difference sp 1)) b w sp (ret % 256) (ret / 256) s refl (λ same. apart (inl same)) (λ same. apart (inr same)) is)
+    let below = wrapping_difference sp 1 in
+    let first = set_byte s.memory sp b (ret % 256) w (λ same. apart (inl same)) is in
+    answered_by-leaves (HasByte b w) (λ _. Done) (push_return_on flat_stack s sp ret) (cond_both (is_stack sp) _ _ (Leaves {A = Unit {0}} (HasByte b w)) (λ stack.
+    either b w (is_stack below) (Went tt (with_memory (with_memory s sp (ret % 256)) below (ret / 256))) (Stopped (StackStop below))
+    (set_byte (slice_set s.memory sp (ret % 256)) below b (ret / 256) w (below_apart b sp stack (λ same. apart (inr same))) first) tt) (λ outside. tt))
 answer_spares (PopReturn sp) b w s apart is =
     answered_by-leaves (HasByte b w) Address (pop_return_from flat_stack s sp)
-    (returns_popped (is_stack (wrapping_sum sp 1)) (is_stack (wrapping_sum sp 2)) b w (wrapping_sum sp 1) (wrapping_sum sp 2) _ s is)
-answer_spares (ProgramAsk z) b w s apart is = is
-answer_spares (ExtendedProgram z) b w s apart is = is
-answer_spares (ExtendedProgramRaising z) b w s apart is = is
+    (either b w (is_stack (wrapping_sum sp 1)) _ (Stopped (StackStop (wrapping_sum sp 1))) (either b w (is_stack (wrapping_sum sp 2)) (Went _ s) (Stopped (StackStop (wrapping_sum sp 2))) is tt) tt)
+answer_spares _ b w s apart is = is
 
 -- A try that goes on or wakes. ------------------------------------------------------------------------------------
 
@@ -120,10 +95,6 @@ TryLeaves b w (Wakes next) = slice_index next.memory b ≡ w
 step_leaves : (b w : ℕ) (s : FlatState) (outcome : Outcome FlatSpace Cpu) → Leaves (HasByte b w) outcome → TryLeaves b w (stepped s outcome)
 step_leaves b w s (Stopped stop) left = tt
 step_leaves b w s (Went cpu space) left = left
-
-halts_or : (halts : Bool) (b w : ℕ) (end : End) (t : Tried) → TryLeaves b w t → TryLeaves b w (cond halts (Stops end) t)
-halts_or true b w end t left = tt
-halts_or false b w end t left = left
 
 reads_or : (b w : ℕ) (program : Program) (s : FlatState) (form : Form) (foreign : Option ℕ) → TryLeaves b w (executed program s form) → TryLeaves b w (read_or_executed program s form foreign)
 reads_or b w program s form (Some a) left = tt
@@ -138,8 +109,8 @@ executed_leaves : (b w : ℕ) (program : Program) (s : FlatState) (form : Form) 
 executed_leaves b w program s form apart is =
     let space = space_of program s in
     let size = next_size program.image s.cpu.pc in
-    halts_or (jumps_to_itself s.cpu.pc form && not (has_bit s.cpu.sreg interrupts)) b w (Halted s.cpu.pc) (stepped s (exec_of flat_calls form s.cpu space size))
-    (step_leaves b w s (exec_of flat_calls form s.cpu space size) (exec_leaves (HasByte b w) flat_calls form s.cpu space size (answer_spares (ask_of form s.cpu) b w space apart is)))
+    cond_both (jumps_to_itself s.cpu.pc form && not (has_bit s.cpu.sreg interrupts)) _ _ (TryLeaves b w) (λ halts. tt) (λ goes.
+    step_leaves b w s (exec_of flat_calls form s.cpu space size) (exec_leaves (HasByte b w) flat_calls form s.cpu space size (answer_spares (ask_of form s.cpu) b w space apart is)))
 
 form_leaves : (b w : ℕ) (program : Program) (s : FlatState) (form : Form) → ¬ IsTouched (ask_of form s.cpu) b → slice_index s.memory b ≡ w → TryLeaves b w (tried_form program s (Some form))
 form_leaves b w program s Spm apart is = tt
@@ -153,8 +124,9 @@ try_leaves b w program s (Some form) apart is = form_leaves b w program s form (
 
 goes_on : (quantum b w : ℕ) (s : FlatState) (t : Tried) (line : Option Line) (next : Moment) → TryLeaves b w t → next_by quantum s t ≡ On line next → slice_index next.now.memory b ≡ w
 goes_on quantum b w s (Stops end) line next left goes = absurd (cc)
-goes_on quantum b w s (Goes own later) line next left goes = let same : record { now = later; due = is_checkpoint quantum s later } ≡ next =
-    cc in ap (λ (m : Moment). slice_index m.now.memory b) (sym same) ∙ left
+goes_on quantum b w s (Goes own later) line next left goes =
+    let same : record { now = later; due = is_checkpoint quantum s later } ≡ next = cc in
+    ap (λ (m : Moment). slice_index m.now.memory b) (sym same) ∙ left
 goes_on quantum b w s (Wakes later) line next left goes = let same : record { now = later; due = true } ≡ next = cc in ap (λ (m : Moment). slice_index m.now.memory b) (sym same) ∙ left
 
 -- A step leaves each byte that its instruction doesn't touch, where no interrupt is taken.

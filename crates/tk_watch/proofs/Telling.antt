@@ -3,11 +3,10 @@ use Rattle.std.proofs.Common.{◌≡◌, ℕ, ◌+◌, ◌-◌, ◌*◌, ◌%◌
 use Rattle.std.specs.Prelude.{Option, Some, None}
 use Rattle.std.proofs.lemmas.Bool.{cases_lt}
 use Rattle.std.proofs.lemmas.List.{append-nil}
-use Rattle.std.specs.Io.KnownBytes.{Appends}
 use Rattle.byte_streams.specs.Streams.{CutShort, IsSent}
 use Rattle.byte_streams.proofs.KnownBytes.{appends-nothing}
-use Rattle.line_gathering.specs.Gathering.{turn_steps}
-use Rattle.line_gathering.proofs.Gathered.{all_on, sent_on, cut_on}
+use Rattle.printed_text.specs.Gathering.{turn_steps}
+use Rattle.printed_text.proofs.Gathered.{all_on, sent_on, cut_on}
 use Rattle.mote_devices.specs.declared.line.Line.{Line}
 use Rattle.flat_machine.specs.FlatMachine.{Moment, On, is_taken, next_of}
 use Rattle.kernel_entry.specs.declared.kernel.End.{End}
@@ -16,7 +15,6 @@ use Rattle.kernel_entry.specs.Seen.{program as program_of}
 use Rattle.step_laws.specs.Moves.{line_before}
 use Rattle.program_steps.specs.Machines.{Machine, flat_of}
 use Rattle.program_steps.specs.Ready.{IsGoing, IsQuiet}
-use Rattle.program_steps.specs.Several.{Silently}
 use Rattle.program_steps.specs.Interrupts.{is_taken_now}
 use Rattle.program_steps.specs.Stepping.{Entering, HasBound, HasEntered, StepWay}
 use Rattle.tk_run.specs.Running.{original_from}
@@ -38,91 +36,64 @@ pub record IsToldSoFar (view : View) (old now : Machine) (i : ℕ) (gathered : L
 
 -- in front of all steps
 front_told : (view : View) (m : Machine) → IsGoing m → IsQuiet m → told_text view (original_from m) 0 ≡ front_text view (flat_of m).now
-front_told view m ready quiet = ap (λ (s : Moment). front_text view s.now) (left m m 0 (Some []) (Some []) (between_start m (Some []) ready quiet).ran)
+front_told view m ready quiet = ap (λ (s : Moment). front_text view s.now) (left (between_start m (Some []) ready quiet).ran)
 
-pub told_start : (view : View) (m : Machine) (gathered rest : List ℕ) (before after : Option (List ℕ)) → IsGoing m → IsQuiet m → gathered ≡ []
+pub told_start : {view : View} {m : Machine} {rest : List ℕ} {before after : Option (List ℕ)} (gathered : List ℕ) → IsGoing m → IsQuiet m → gathered ≡ []
     → IsSent (gathered ++ front_text view (flat_of m).now) rest before after → IsToldSoFar view m m 0 rest before after
-told_start view m gathered rest before after ready quiet empty sent = record {
-  text = [];
-  between = between_start m (Some []) ready quiet;
-  sent = subst (λ z. IsSent z rest before after) (ap (λ g. g ++ front_text view (flat_of m).now) empty ∙ sym (front_told view m ready quiet)) sent;
-}
+told_start {view} {m} gathered ready quiet empty sent = record { text = []; between = between_start m (Some []) ready quiet; sent = rw (empty, ← front_told view m ready quiet) at sent }
 
 pub cut_start : (view : View) (m : Machine) (gathered : List ℕ) (before after : Option (List ℕ)) → IsGoing m → IsQuiet m → gathered ≡ []
     → CutShort before after (gathered ++ front_text view (flat_of m).now) → CutShort before after (told_text view (original_from m) 0)
-cut_start view m gathered before after ready quiet empty cut = subst (CutShort before after) (ap (λ g. g ++ front_text view (flat_of m).now) empty ∙ sym (front_told view m ready quiet)) cut
+cut_start view m gathered before after ready quiet empty cut = rw (empty, ← front_told view m ready quiet) at cut
 
-module _ (view : View) (old now : Machine) (i : ℕ) where
-  abbrev pub so_far : List ℕ
-  so_far = told_text view (original_from old) i
-
+module _ {view : View} {old now : Machine} {i : ℕ} {gathered : List ℕ} {before after : Option (List ℕ)} (way : IsToldSoFar view old now i gathered before after) where
   -- behind what went out in turn
-  pub told_in_turn : (gathered rest : List ℕ) (before after later : Option (List ℕ)) → IsToldSoFar view old now i gathered before after → IsSent (gathered ++ []) rest after later
-      → IsToldSoFar view old now i rest before later
-  told_in_turn gathered rest before after later way sent = record {
+  pub told_in_turn : {rest : List ℕ} {later : Option (List ℕ)} → IsSent (gathered ++ []) rest after later → IsToldSoFar view old now i rest before later
+  told_in_turn {rest} {later} sent = record {
     text = way.text;
     between = way.between;
-    sent = subst (λ z. IsSent z rest before later) (append-nil so_far) (sent_on so_far gathered [] rest before after later way.sent sent);
+    sent = rw (append-nil (told_text view (original_from old) i)) at (sent_on (told_text view (original_from old) i) gathered [] rest before after later way.sent sent);
   }
 
-  pub cut_in_turn : (gathered : List ℕ) (before after later : Option (List ℕ)) → IsToldSoFar view old now i gathered before after → CutShort after later (gathered ++ []) → CutShort before later so_far
-  cut_in_turn gathered before after later way cut =
-      subst (CutShort before later) (append-nil so_far) (cut_on so_far gathered [] before after later way.sent cut)
+  pub cut_in_turn : (later : Option (List ℕ)) → CutShort after later (gathered ++ []) → CutShort before later (told_text view (original_from old) i)
+  cut_in_turn later cut = rw (append-nil (told_text view (original_from old) i)) at (cut_on (told_text view (original_from old) i) gathered [] before after later way.sent cut)
 
--- behind a turn
-pub turned_on : (view : View) (old now new : Machine) (i count : ℕ) (line : Option Line) (gathered : List ℕ) (before after : Option (List ℕ)) → AreUntold view i count
-    → IsToldSoFar view old now i gathered before after → HasTurned now new count line → new.end ≡ None → HasGone view old now new i (i + count) line
-turned_on view old now new i count line gathered before after untold way turned going = gone view old now new i count line way.text untold way.between turned going
+  -- behind a turn
+  pub turned_on : {new : Machine} {count : ℕ} {line : Option Line} → AreUntold view i count → HasTurned now new count line → new.end ≡ None → HasGone view old now new i (i + count) line
+  turned_on untold turned going = gone untold way.between turned going
 
-module _ (view : View) (old now new : Machine) (i j : ℕ) (line : Option Line) where
-  abbrev pub told_before : List ℕ
-  told_before = told_text view (original_from old) i
+  turn_told : {new : Machine} {j : ℕ} {line : Option Line} (bytes : List ℕ) → HasGone view old now new i j line → AreHeld view (flat_of now).now.memory bytes
+      → told_text view (original_from old) i ++ step_told view j (line_before line []) (flat_of now).now.cpu.pc bytes (flat_of new).now ≡ told_text view (original_from old) j
+  turn_told {new} {j} {line} bytes on held =
+      ap (λ t. told_text view (original_from old) i ++ t) (step_same view j (line_before line []) (flat_of now).now (flat_of new).now bytes held) ∙ sym on.told
 
-  abbrev pub last_told : List ℕ → List ℕ
-  last_told bytes = step_told view j (line_before line []) (flat_of now).now.cpu.pc bytes (flat_of new).now
-
-  turn_told : (bytes : List ℕ) → HasGone view old now new i j line → AreHeld view (flat_of now).now.memory bytes
-      → told_before ++ last_told bytes ≡ told_text view (original_from old) j
-  turn_told bytes on held =
-      ap (λ t. told_before ++ t) (step_same view j (line_before line []) (flat_of now).now (flat_of new).now bytes held) ∙ sym on.told
-
-  pub told_gone : (bytes gathered rest : List ℕ) (before after later : Option (List ℕ)) → HasGone view old now new i j line → IsToldSoFar view old now i gathered before after
+  pub told_gone : {new : Machine} {j : ℕ} {line : Option Line} {rest : List ℕ} {later : Option (List ℕ)} (bytes : List ℕ) → HasGone view old now new i j line
       → AreHeld view (flat_of now).now.memory bytes
-      → IsSent (gathered ++ last_told bytes) rest after later → IsToldSoFar view old new j rest before later
-  told_gone bytes gathered rest before after later on way held sent = record {
+      → IsSent (gathered ++ step_told view j (line_before line []) (flat_of now).now.cpu.pc bytes (flat_of new).now) rest after later → IsToldSoFar view old new j rest before later
+  told_gone {rest = rest} {later} bytes on held sent = record {
     text = on.text;
     between = on.between;
-    sent = subst (λ z. IsSent z rest before later) (turn_told bytes on held) (sent_on told_before gathered _ rest before after later way.sent sent);
+    sent = rw (turn_told bytes on held) at (sent_on (told_text view (original_from old) i) gathered _ rest before after later way.sent sent);
   }
 
-  pub cut_gone : (bytes gathered : List ℕ) (before after later : Option (List ℕ)) → HasGone view old now new i j line → IsToldSoFar view old now i gathered before after
-      → AreHeld view (flat_of now).now.memory bytes
-      → CutShort after later (gathered ++ last_told bytes) → CutShort before later (told_text view (original_from old) j)
-  cut_gone bytes gathered before after later on way held cut =
-      subst (CutShort before later) (turn_told bytes on held) (cut_on told_before gathered _ before after later way.sent cut)
+  pub cut_gone : {new : Machine} {j : ℕ} {line : Option Line} (later : Option (List ℕ)) (bytes : List ℕ) → HasGone view old now new i j line → AreHeld view (flat_of now).now.memory bytes
+      → CutShort after later (gathered ++ step_told view j (line_before line []) (flat_of now).now.cpu.pc bytes (flat_of new).now) → CutShort before later (told_text view (original_from old) j)
+  cut_gone later bytes on held cut = rw (turn_told bytes on held) at (cut_on (told_text view (original_from old) i) gathered _ before after later way.sent cut)
 
--- at an end
-told_end : (view : View) (old new : Machine) (i count n : ℕ) (end : End) (gathered : List ℕ) (before after : Option (List ℕ)) → old.steps ≡ 0 → HasEnded view old new i count n end
-    → IsSent (told_text view (original_from old) i) gathered before after → HasTold view old new n gathered before after end
-told_end view old new i count n end gathered before after begins over sent =
-    let all : over.done ≡ new.steps = omega (arith, over.steps, begins) in
-    record {
-      text = over.text;
-      advanced = over.advanced;
-      sent = subst (λ z. IsSent z gathered before after) (sym over.told ∙ ap (told_text view (original_from old)) all) sent;
-    }
+  -- at an end
+  told_end : {new : Machine} {count n : ℕ} {end : End} → old.steps ≡ 0 → HasEnded view old new i count n end → HasTold view old new n gathered before after end
+  told_end {new} begins over =
+      let all : over.done ≡ new.steps = omega (arith, over.steps, begins) in
+      record { text = over.text; advanced = over.advanced; sent = rw (← over.told, all) at way.sent }
 
-pub told_ended : (view : View) (old now new : Machine) (i count n : ℕ) (line : Option Line) (end : End) (gathered : List ℕ) (before after : Option (List ℕ)) → AreUntold view i count → old.steps ≡ 0
-    → old.end ≡ None → old.broken ≡ false → i < n → i + count ≤ n → IsToldSoFar view old now i gathered before after → HasTurned now new count line → new.end ≡ Some end
-    → HasTold view old new n gathered before after end × (new.steps ≤ i + count)
-told_ended view old now new i count n line end gathered before after untold begins going whole below within way turned over =
-    let over' = ended view old now new i count n line end way.text untold going whole below within way.between turned over in
-    (told_end view old new i count n end gathered before after begins over' way.sent, omega (arith, over'.steps, over'.most, begins))
+  pub told_ended : {new : Machine} {count n : ℕ} {line : Option Line} {end : End} → AreUntold view i count → old.steps ≡ 0 → old.end ≡ None → old.broken ≡ false → i < n → i + count ≤ n
+      → HasTurned now new count line → new.end ≡ Some end → HasTold view old new n gathered before after end × (new.steps ≤ i + count)
+  told_ended untold begins going whole below within turned over =
+      let over' = ended untold going whole below within way.between turned over in
+      (told_end begins over', omega (arith, over'.steps, over'.most, begins))
 
-pub told_bound : (view : View) (old now new : Machine) (n : ℕ) (end : End) (gathered : List ℕ) (before after : Option (List ℕ)) → old.steps ≡ 0 → old.end ≡ None → old.broken ≡ false
-    → IsToldSoFar view old now n gathered before after → HasBound now new end → HasTold view old new n gathered before after end
-told_bound view old now new n end gathered before after begins going whole way is =
-    told_end view old new n 0 n end gathered before after begins (bound view old now new n end way.text going whole way.between is) way.sent
+  pub told_bound : {new : Machine} {end : End} → old.steps ≡ 0 → old.end ≡ None → old.broken ≡ false → HasBound now new end → HasTold view old new i gathered before after end
+  told_bound begins going whole is = told_end begins (bound going whole way.between is)
 
 -- Turns that went out. --------------------------------------------------------------------------------------------
 
@@ -130,14 +101,12 @@ went_out : {K : Type 0} (taken : K → Option (List ℕ)) (view : View) (old now
     → IsToldSoFar view old now done gathered (taken before) (taken after) → gathered ≡ [] → HadAll taken view old before done
 went_out taken view old now before after done gathered way empty = record {
   sink = after;
-  put = all_on (told_text view (original_from old) done) gathered (taken before) (taken after) (taken after) way.sent
-      (subst (Appends (taken after) (taken after)) (sym empty) (appends-nothing (taken after)));
+  put = all_on (told_text view (original_from old) done) gathered (taken before) (taken after) (taken after) way.sent (rw empty (appends-nothing (taken after)));
 }
 
 -- up to the next
 pub turns_on : {K : Type 0} (taken : K → Option (List ℕ)) (view : View) (old now : Machine) (before after : K) (done : ℕ) (gathered : List ℕ) → GoOutInTurn taken view old before done
-    → IsToldSoFar view old now done gathered (taken before) (taken after)
-    → (done % turn_steps ≡ 0 → gathered ≡ []) → GoOutInTurn taken view old before (done + (turn_steps - done % turn_steps))
+    → IsToldSoFar view old now done gathered (taken before) (taken after) → (done % turn_steps ≡ 0 → gathered ≡ []) → GoOutInTurn taken view old before (done + (turn_steps - done % turn_steps))
 turns_on taken view old now before after done gathered turns way empty turn below =
     elim (cases_lt (turn_steps * turn) done) [
       | inl earlier ↦ turns turn earlier
@@ -155,47 +124,40 @@ turns_left taken view old before most steps turns few turn below = turns turn (o
 -- The bytes that are held. ----------------------------------------------------------------------------------------
 
 -- a turn of one step is the next step of the original program
-step_next : (last new : Machine) (line : Option Line) → StepWay last new line → new.end ≡ None → next_of (program_of last.kernel) (flat_of last) ≡ On line (flat_of new)
-step_next last new line (StepWay.On ready quiet steps is) going = is
-step_next last new line (StepWay.Stopped stop over kept none steps is same) going = absurd (no_end new (ends.Stopped stop) kept going)
+step_next : {last new : Machine} {line : Option Line} → StepWay last new line → new.end ≡ None → next_of (program_of last.kernel) (flat_of last) ≡ On line (flat_of new)
+step_next (StepWay.On ready quiet steps is) going = is
+step_next {new = new} (StepWay.Stopped stop over kept none steps is same) going = absurd (no_end new (ends.Stopped stop) kept going)
 
-entered_next : (now mid last new : Machine) (line : Option Line) → HasEntered now mid None → mid ≡ last → next_of (program_of last.kernel) (flat_of last) ≡ On line (flat_of new)
+entered_next : {now mid last : Machine} (new : Machine) {line : Option Line} → HasEntered now mid None → mid ≡ last → next_of (program_of last.kernel) (flat_of last) ≡ On line (flat_of new)
     → next_of (program_of now.kernel) (flat_of now) ≡ On line (flat_of new)
-entered_next now mid last new line entered same is =
+entered_next {now} {mid} new entered same is =
     ap (λ program. next_of program (flat_of now)) (sym entered.stays.program)
     ∙ ap (next_of (program_of mid.kernel)) (sym entered.flat)
     ∙ ap (λ (m : Machine). next_of (program_of m.kernel) (flat_of m)) same
     ∙ is
 
-alone : (n : ℕ) (mid last : Machine) → n ≡ 0 → Silently n mid last → mid ≡ last
-alone n mid last none silently = subst (λ k. Silently k mid last) none silently
-
-turn_next : (now new : Machine) (count : ℕ) (line : Option Line) → count ≤ 1 → HasTurned now new count line → new.end ≡ None → next_of (program_of now.kernel) (flat_of now) ≡ On line (flat_of new)
-turn_next now new count line few (HasTurned.Interrupted wanted step one none) going =
-    step_next now new None step.way going ∙ ap (λ l. On l (flat_of new)) (sym none)
-turn_next now new count line few (HasTurned.Refused end entered zeros none) going = absurd (no_end new end (refused_end now new end entered.way) going)
-turn_next now new count line few (HasTurned.Stepped mid entered done) going =
-    entered_next now mid done.last new line entered (alone done.earlier mid done.last (omega (arith, done.counted, few)) done.silently) (step_next done.last new line done.step.way going)
+turn_next : {now new : Machine} {count : ℕ} {line : Option Line} → count ≤ 1 → HasTurned now new count line → new.end ≡ None → next_of (program_of now.kernel) (flat_of now) ≡ On line (flat_of new)
+turn_next few (HasTurned.Interrupted wanted step one none) going = rw none (step_next step.way going)
+turn_next {new = new} few (HasTurned.Refused end entered zeros none) going = absurd (no_end new end (refused_end entered.way) going)
+turn_next {new = new} few (HasTurned.Stepped mid entered done) going =
+    let none : done.earlier ≡ 0 = omega (arith, done.counted, few) in
+    entered_next new entered (rw none at done.silently) (step_next done.step.way going)
 
 -- .. and no interrupt, where none is taken
-entered_untaken : (now mid : Machine) → HasEntered now mid None → Entering now mid None → is_taken (flat_of now) ≡ false
-entered_untaken now mid entered (Entering.In ready none own untaken) = ap is_taken (sym entered.flat) ∙ untaken
+entered_untaken : {now mid : Machine} → HasEntered now mid None → Entering now mid None → is_taken (flat_of now) ≡ false
+entered_untaken entered (Entering.In ready none own untaken) = ap is_taken (sym entered.flat) ∙ untaken
 
-turn_untaken : (now new : Machine) (count : ℕ) (line : Option Line) → is_taken_now now ≡ false → HasTurned now new count line → new.end ≡ None → is_taken (flat_of now) ≡ false
-turn_untaken now new count line none (HasTurned.Interrupted wanted step one no_line) going = absurd (let e : true ≡ false = sym wanted ∙ none in cc)
-turn_untaken now new count line none (HasTurned.Refused end entered zeros no_line) going = absurd (no_end new end (refused_end now new end entered.way) going)
-turn_untaken now new count line none (HasTurned.Stepped mid entered done) going = entered_untaken now mid entered entered.way
+turn_untaken : {now new : Machine} {count : ℕ} {line : Option Line} → is_taken_now now ≡ false → HasTurned now new count line → new.end ≡ None → is_taken (flat_of now) ≡ false
+turn_untaken none (HasTurned.Interrupted wanted step one no_line) going = absurd (let e : true ≡ false = sym wanted ∙ none in cc)
+turn_untaken {new = new} none (HasTurned.Refused end entered zeros no_line) going = absurd (no_end new end (refused_end entered.way) going)
+turn_untaken none (HasTurned.Stepped mid entered done) going = entered_untaken entered entered.way
 
 single : (at count i steps : ℕ) → AreUntold (Changes at count) i steps → steps ≤ 1
-single at count i steps untold = elim (cases_lt 1 steps) [
-  | inl many ↦ absurd (untold (i + 1) (omega arith) (omega (arith, many)))
-  | inr few ↦ few
-]
+single at count i steps untold = elim (cases_lt 1 steps) [ inl many ↦ absurd (untold (i + 1) (omega arith) (omega (arith, many))) | inr few ↦ few ]
 
-pub held_beside : (view : View) (now new : Machine) (i count from to : ℕ) (line : Option Line) (bytes : List ℕ) → AreUntold view i count → HasTurned now new count line → new.end ≡ None
-    → IsSpared view now from to → AreHeld view (flat_of now).now.memory bytes
-    → AreHeldBeside view (flat_of new).now.memory from to bytes
-held_beside (Changes at size) now new i count from to line bytes untold turned going spared held =
-    let next = turn_next now new count line (single at size i count untold) turned going in
-    (spared.0, spared.1, λ k below out. let own = spared.2 k below out in held k below ∙ sym (own.1 (turn_untaken now new count line own.0 turned going) line (flat_of new) next))
-held_beside _ now new i count from to line bytes untold turned going spared held = tt
+pub held_beside : (view : View) {now new : Machine} (i : ℕ) {count : ℕ} (from to : ℕ) {line : Option Line} (bytes : List ℕ) → AreUntold view i count → HasTurned now new count line → new.end ≡ None
+    → IsSpared view now from to → AreHeld view (flat_of now).now.memory bytes → AreHeldBeside view (flat_of new).now.memory from to bytes
+held_beside (Changes at size) {now} {new} i {count} from to {line} bytes untold turned going spared held =
+    let next = turn_next (single at size i count untold) turned going in
+    (spared.0, spared.1, λ k below out. let own = spared.2 k below out in held k below ∙ sym (own.1 (turn_untaken own.0 turned going) line (flat_of new) next))
+held_beside _ i from to bytes untold turned going spared held = tt

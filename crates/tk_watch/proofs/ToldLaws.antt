@@ -1,5 +1,5 @@
 -- What a view tells of a run, and of one step more.
-use Rattle.std.proofs.Common.{◌≡◌, ℕ, zero, suc, ◌+◌, ◌<◌, cond, List, [], ◌++◌, length, drop, refl, sym, ap, ap₂, ◌∙◌, subst, arith}
+use Rattle.std.proofs.Common.{◌≡◌, ℕ, zero, suc, ◌+◌, ◌<◌, cond, List, [], ◌++◌, length, drop, refl, sym, ap, ap₂, ◌∙◌, arith}
 use Rattle.std.proofs.lemmas.List.{append-nil}
 use Rattle.mote_devices.specs.declared.line.Line.{Line}
 use Rattle.flat_machine.specs.FlatMachine.{FlatState, Moment, Run}
@@ -23,8 +23,7 @@ nothing_told _ step before after none = refl
 pub told_on : (view : View) (runs : ℕ → Run) (k m : ℕ) (lines : List Line) (state : Moment) → m ≡ suc k → (runs m).lines ≡ (runs k).lines ++ lines → (runs m).state ≡ state
     → told_text view runs m ≡ told_text view runs k ++ step_text view m lines (runs k).state.now state.now
 told_on view runs k m lines state is grows to =
-    subst (λ j. (runs j).lines ≡ (runs k).lines ++ lines → (runs j).state ≡ state → told_text view runs j ≡ told_text view runs k ++ step_text view j lines (runs k).state.now state.now) (sym is)
-    (λ g t. ap₂ (λ (l : List Line) (s : Moment). told_text view runs k ++ step_text view (suc k) l (runs k).state.now s.now) (lines_of_step runs k lines g) t) grows to
+    rw is (ap₂ (λ (l : List Line) (s : Moment). told_text view runs k ++ step_text view (suc k) l (runs k).state.now s.now) (lines_of_step runs k lines (rw is at grows)) (rw is at to))
 
 -- .. of which nothing is told
 pub told_silent : (view : View) (runs : ℕ → Run) (k m : ℕ) → m ≡ suc k → IsUntold view m → (runs m).lines ≡ (runs k).lines → told_text view runs m ≡ told_text view runs k

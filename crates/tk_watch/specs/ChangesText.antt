@@ -1,6 +1,6 @@
 -- The bytes that a step changes, as they are shown.
 use Rattle.std.specs.Prelude.{ℕ, ◌+◌, ◌==◌, if◌then◌else◌, List, [], ◌++◌, codes, decimal}
-use Rattle.line_writer.specs.Pieces.{address_text, byte_text}
+use Rattle.text_lines.specs.Pieces.{address_text, byte_text}
 use Rattle.tk_watch.specs.Rows.{rows}
 
 -- the step of this number, which began at this pc, changed a byte

@@ -1,6 +1,6 @@
 -- The memory of the original program, as it is shown: rows of 16 bytes, those that are not all 0.
 use Rattle.std.specs.Prelude.{ℕ, zero, suc, ◌+◌, ◌*◌, ◌==◌, ◌||◌, not, Bool, false, if◌then◌else◌, List, [], ◌++◌, slice_index, codes}
-use Rattle.line_writer.specs.Pieces.{address_text, byte_text}
+use Rattle.text_lines.specs.Pieces.{address_text, byte_text}
 use Rattle.tk_watch.specs.Rows.{rows}
 
 -- one of the first n of these bytes isn't 0

@@ -1,7 +1,7 @@
 -- How many steps of a run begin at each original address.
 use Rattle.std.specs.Prelude.{ℕ, zero, suc, ◌+◌, ◌==◌, ◌&&◌, Bool, nat_lt, if◌then◌else◌, List, [], ◌++◌, codes, decimal}
 use Rattle.flat_machine.specs.FlatMachine.{Run}
-use Rattle.line_writer.specs.Pieces.{address_text}
+use Rattle.text_lines.specs.Pieces.{address_text}
 use Rattle.tk_watch.specs.Rows.{rows}
 
 -- `runs n` is the run of the first n steps. The step behind the first k is done, and begins at this address. An interrupt that is

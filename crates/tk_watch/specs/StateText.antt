@@ -2,7 +2,7 @@
 use Rattle.std.specs.Prelude.{ℕ, ◌-◌, List, ◌++◌, length, count_by, slice_index, codes, decimal}
 use Rattle.mote_devices.specs.State.{State, stored, mask_address}
 use Rattle.flat_machine.specs.FlatMachine.{FlatState}
-use Rattle.line_writer.specs.Pieces.{address_text, byte_text}
+use Rattle.text_lines.specs.Pieces.{address_text, byte_text}
 use Rattle.tk_watch.specs.Rows.{rows}
 
 -- a line: a name, with a blank behind it, and what stands there

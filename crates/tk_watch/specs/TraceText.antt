@@ -1,6 +1,6 @@
 -- What stands after a step, as it is shown: a row of the number of steps, the core and the registers.
 use Rattle.std.specs.Prelude.{ℕ, ◌-◌, ◌&&◌, Bool, nat_le, nat_lt, if◌then◌else◌, List, [], ◌++◌, slice_index, codes, decimal}
-use Rattle.line_writer.specs.Pieces.{address_text, byte_text}
+use Rattle.text_lines.specs.Pieces.{address_text, byte_text}
 use Rattle.tk_watch.specs.Rows.{rows}
 
 -- the begin of a row: how many steps, the pc, the stack pointer and SREG

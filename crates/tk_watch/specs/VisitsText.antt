@@ -1,6 +1,6 @@
 -- That the program stands at one of some addresses, as it is shown.
 use Rattle.std.specs.Prelude.{ℕ, ◌==◌, ◌||◌, Bool, false, if◌then◌else◌, List, [], ◌∷◌, ◌++◌, codes, decimal}
-use Rattle.line_writer.specs.Pieces.{address_text}
+use Rattle.text_lines.specs.Pieces.{address_text}
 
 -- an address is one of these
 abbrev pub is_among : List ℕ → ℕ → Bool

@@ -4,7 +4,7 @@ use Rattle.std.specs.Io.KnownBytes.{Appends}
 use Rattle.byte_streams.specs.declared.failure.Failed.{Failed}
 use Rattle.byte_streams.specs.Faults.{Rose}
 use Rattle.byte_streams.specs.Streams.{CutShort, IsSent}
-use Rattle.line_gathering.specs.Gathering.{turn_steps}
+use Rattle.printed_text.specs.Gathering.{turn_steps}
 use Rattle.printed_text.specs.StopLines.{end_line}
 use Rattle.kernel_entry.specs.declared.kernel.End.{End}
 use Rattle.kernel_entry.specs.declared.kernel.End.TheVariants as ends

@@ -9,7 +9,7 @@ ghost use Rattle.flash_words.specs.Pages.{word_at};
 ghost use Rattle.heap_frames.specs.Memory.{vmem};
 ghost use Rattle.heap_frames.specs.Paged.{IsPaged};
 ghost use Rattle.kernel_entry.specs.Parts.{core_of};
-ghost use Rattle.line_gathering.specs.Gathering.{Gathers};
+ghost use Rattle.printed_text.specs.Gathering.{Gathers};
 ghost use Rattle.program_steps.specs.Interrupts.{is_taken_now};
 ghost use Rattle.program_steps.specs.Ready.{IsGoing};
 ghost use Rattle.program_steps.specs.Wholes.{whole};
@@ -25,10 +25,10 @@ use avr_isa::Instr;
 use byte_streams::{Failed, Sink};
 use flash_model::{Flash, Layout};
 use kernel_entry::Kernel;
-use line_gathering::{Gathered, add};
-use line_writer::{Text, push, push_address, push_byte, push_number, whole as whole_text};
 use mote_core::Mote;
+use printed_text::{Gathered, add};
 use program_steps::{Progress, must_take};
+use text_lines::{Text, push, push_address, push_byte, push_number, whole as whole_text};
 
 /// So many bytes of memory from an address on, and 0 behind them.
 pub(crate) fn bytes_from(mote: &Mote, at: u16, count: u8) -> [u8; MOST_BYTES]

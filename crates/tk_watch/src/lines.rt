@@ -1,15 +1,14 @@
 //! The device lines of a run, each with the number of its step.
 ghost use Rattle.std.specs.Prelude.{◌≡◌, [], flat_map};
 ghost use Rattle.byte_streams.specs.Faults.{HasCause};
-ghost use Rattle.line_gathering.specs.Gathering.{Gathers};
+ghost use Rattle.printed_text.specs.Gathering.{Gathers};
 ghost use Rattle.step_laws.specs.Moves.{line_before};
 ghost use Rattle.tk_watch.specs.NumberedLines.{numbered_line as numbered_line_of};
 
 use byte_streams::{Failed, Sink};
-use line_gathering::{Gathered, add};
-use line_writer::{Text, push, push_number, whole};
 use mote_devices::Line;
-use printed_text::device_line;
+use printed_text::{Gathered, add, device_line};
+use text_lines::{Text, push, push_number, whole};
 
 /// Adds the line of a step, if it has one.
 #[inline(always)]

@@ -3,14 +3,14 @@ ghost use Rattle.std.specs.Prelude.{◌≡◌, ◌+◌, ◌≤◌, [], MatchOpti
 ghost use Rattle.byte_streams.specs.Faults.{HasCause};
 ghost use Rattle.heap_frames.specs.Memory.{vmem};
 ghost use Rattle.heap_frames.specs.Paged.{IsPaged};
-ghost use Rattle.line_gathering.specs.Gathering.{Gathers};
+ghost use Rattle.printed_text.specs.Gathering.{Gathers};
 ghost use Rattle.tk_watch.specs.MemoryText.{memory_text, row_text};
 
 use crate::reading::memory_byte;
 use byte_streams::{Failed, Sink};
-use line_gathering::{Gathered, add};
-use line_writer::{Text, push, push_address, push_byte};
 use mote_core::Mote;
+use printed_text::{Gathered, add};
+use text_lines::{Text, push, push_address, push_byte};
 
 /// How many bytes a row has.
 const ROW: u16 = 16;

@@ -1,7 +1,7 @@
 //! How many steps of a run began at each original address.
 ghost use Rattle.std.specs.Prelude.{◌≡◌, ◌≢◌, ◌+◌, ◌≤◌, ◌^◌, ℕ, ◌<◌, false, None, length, slice_index, slice_set, IfOk};
 ghost use Rattle.byte_streams.specs.Faults.{HasCause};
-ghost use Rattle.line_gathering.specs.Gathering.{Gathers};
+ghost use Rattle.printed_text.specs.Gathering.{Gathers};
 ghost use Rattle.page_cursor.specs.Cursors.{IsCursor};
 ghost use Rattle.program_steps.specs.Ready.{IsGoing, IsQuiet};
 ghost use Rattle.program_steps.specs.Wholes.{whole};
@@ -12,11 +12,11 @@ ghost use Rattle.tk_watch.specs.Watching.{HasCounted};
 use crate::turn::turn;
 use byte_streams::{Failed, Sink};
 use kernel_entry::{End, Kernel};
-use line_gathering::{Gathered, add};
-use line_writer::{Text, push, push_address, push_number};
 use page_cursor::Cursor;
+use printed_text::{Gathered, add};
 use program_steps::{Progress, at_bound};
 use std::alloc::{AllocError, Global};
+use text_lines::{Text, push, push_address, push_number};
 
 /// How many addresses there are.
 const ADDRESSES: usize = 65_536;

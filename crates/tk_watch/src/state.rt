@@ -4,7 +4,7 @@ ghost use Rattle.arrayvec.specs.ArrayVec.{array_vec_len};
 ghost use Rattle.byte_streams.specs.Faults.{HasCause};
 ghost use Rattle.heap_frames.specs.Frames.{pages};
 ghost use Rattle.heap_frames.specs.Paged.{IsPaged};
-ghost use Rattle.line_gathering.specs.Gathering.{Gathers};
+ghost use Rattle.printed_text.specs.Gathering.{Gathers};
 ghost use Rattle.mote_devices.specs.State.{stored, mask_address};
 ghost use Rattle.program_steps.specs.Machines.{flat_of};
 ghost use Rattle.program_steps.specs.Wholes.{whole};
@@ -13,11 +13,11 @@ ghost use Rattle.tk_watch.specs.StateText.{core_text as core_of, counts_text as 
 
 use byte_streams::{Failed, Sink};
 use kernel_entry::Kernel;
-use line_gathering::{Gathered, add};
-use line_writer::{Text, push, push_address, push_byte, push_number, whole as whole_text};
 use mote_core::Mote;
 use mote_devices::Devices;
+use printed_text::{Gathered, add};
 use program_steps::Progress;
+use text_lines::{Text, push, push_address, push_byte, push_number, whole as whole_text};
 
 /// How many slots there are, and how many events.
 #[derive(Clone, Copy)]

@@ -3,7 +3,7 @@ ghost use Rattle.std.specs.Prelude.{◌≡◌, ◌+◌, ◌-◌, ◌%◌, ◌<�
 ghost use Rattle.byte_streams.specs.Faults.{HasCause};
 ghost use Rattle.heap_frames.specs.Memory.{vmem};
 ghost use Rattle.heap_frames.specs.Paged.{IsPaged};
-ghost use Rattle.line_gathering.specs.Gathering.{Gathers, turn_steps};
+ghost use Rattle.printed_text.specs.Gathering.{Gathers, turn_steps};
 ghost use Rattle.program_steps.specs.Machines.{flat_of};
 ghost use Rattle.program_steps.specs.Ready.{IsGoing, IsQuiet};
 ghost use Rattle.program_steps.specs.Wholes.{whole};
@@ -20,9 +20,9 @@ use crate::view::{MOST_BYTES, View};
 use crate::visits::tell_visit;
 use byte_streams::{Failed, Sink};
 use kernel_entry::{End, Kernel};
-use line_gathering::{Gathered, send_in_turn, up_to_turn};
 use mote_core::Mote;
 use page_cursor::Cursor;
+use printed_text::{Gathered, send_in_turn, up_to_turn};
 use program_steps::{Progress, at_bound};
 
 /// What is known of a turn before it is made: the address at which its step begins, and which of the watched bytes the step may

@@ -1,16 +1,16 @@
 //! What stands after a step, as a row.
 ghost use Rattle.std.specs.Prelude.{◌≡◌, ◌+◌, ◌<◌, ◌≤◌, ◌++◌, ℕ, false, codes, slice_index};
 ghost use Rattle.byte_streams.specs.Faults.{HasCause};
-ghost use Rattle.line_gathering.specs.Gathering.{Gathers};
+ghost use Rattle.printed_text.specs.Gathering.{Gathers};
 ghost use Rattle.sram_layout.specs.Bytes.{data_word_at};
 ghost use Rattle.sram_layout.specs.Cells.{vsp_cell};
 ghost use Rattle.tk_watch.specs.Rows.{rows};
 ghost use Rattle.tk_watch.specs.TraceText.{core_told, has_row as has_row_of, register_told, row_told, trace_text};
 
 use byte_streams::{Failed, Sink};
-use line_gathering::{Gathered, add};
-use line_writer::{Text, push, push_address, push_byte, push_number, whole};
 use mote_core::Mote;
+use printed_text::{Gathered, add};
+use text_lines::{Text, push, push_address, push_byte, push_number, whole};
 
 /// Adds the row of a trace, where there is one after so many steps: their number, pc, sp and SREG, and r0 to r31.
 #[inline(always)]

@@ -2,14 +2,14 @@
 //! step, however many they are.
 ghost use Rattle.std.specs.Prelude.{◌≡◌, ◌<◌, ◌==◌, if◌then◌else◌, ℕ, [], length, slice_index};
 ghost use Rattle.byte_streams.specs.Faults.{HasCause};
-ghost use Rattle.line_gathering.specs.Gathering.{Gathers};
+ghost use Rattle.printed_text.specs.Gathering.{Gathers};
 ghost use Rattle.tk_watch.specs.Kept.{AreMarked};
 ghost use Rattle.tk_watch.specs.VisitsText.{visit_line as visit_line_of};
 
 use crate::view::Places;
 use byte_streams::{Failed, Sink};
-use line_gathering::{Gathered, add};
-use line_writer::{Text, push, push_address, push_number, whole};
+use printed_text::{Gathered, add};
+use text_lines::{Text, push, push_address, push_number, whole};
 
 /// Marks addresses, where none is marked.
 pub(crate) fn mark(places: &Places, marks: &mut [u64])

@@ -8,7 +8,7 @@ ghost use Rattle.tk_watch.specs.declared.view.View.TheVariants.{Visits};
 ghost use Rattle.tk_watch.specs.declared.view.View.{View as ViewValue};
 
 use crate::view::{MOST_PLACES, Places, View};
-use line_reader::value_of;
+use text_lines::value_of;
 
 /// How many rows a trace has at most.
 const MOST_ROWS: u64 = 65_536;

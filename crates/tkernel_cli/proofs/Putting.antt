@@ -9,7 +9,7 @@ use Rattle.cli_words.specs.declared.status.Status.{Status}
 use Rattle.cli_words.specs.declared.status.Status.TheVariants as status
 use Rattle.cli_words.specs.Stream.{Stream}
 use Rattle.tkernel_cli.specs.Runs.{Says, Begins}
-use Rattle.line_gathering.proofs.Gathered.{cut_less}
+use Rattle.printed_text.proofs.Gathered.{cut_less}
 
 -- a text said behind one that went out before
 pub rose_on : (before mid now : ℕ) → before ≤ mid → Rose mid now → Rose before now

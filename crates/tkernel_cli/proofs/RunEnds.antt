@@ -24,7 +24,8 @@ use Rattle.cli_words.specs.declared.status.Status.{Status}
 use Rattle.cli_words.specs.declared.status.Status.TheVariants as status
 use Rattle.tkernel_cli.specs.DumpRuns.{silent}
 use Rattle.cli_words.specs.Stream.{Stream}
-use Rattle.tkernel_cli.specs.Runs.{Says, Begins, Runs, RunsToTheEnd, RunsUntilCut, Follows, KeepsEnd, own_program, original_of, first_start, whole_run, checkpoints_of, count_line_of, last_text, run_text, status_of_end, status_of_stop}
+use Rattle.tkernel_cli.specs.Runs.{Says, Begins, Runs, RunsToTheEnd, RunsUntilCut, Follows, KeepsEnd, own_program, original_of, first_start, whole_run, checkpoints_of, count_line_of, last_text}
+use Rattle.tkernel_cli.specs.Runs.{run_text, status_of_end, status_of_stop}
 use Rattle.tkernel_cli.proofs.Putting.{rose_on, said_on, begun_on, begun_cut, begun_behind}
 
 -- the last two lines, by the original's counts

@@ -15,7 +15,7 @@ use Rattle.tk_tasks.specs.States.{Tasks, AreSound, player_of, turns_of}
 use Rattle.task_turns.specs.Turns.{Told, Turns, alone, at_reset_in, tries, turns}
 use Rattle.tk_tasks.specs.Plays.{Play, AreInTurn, EndsAsAlone, HasRunTasks, HaveRun, TaskPath, counted, told_of, told_text}
 use Rattle.tk_tasks.proofs.Telling.{told_text_on}
-use Rattle.line_gathering.proofs.Gathered.{cut_less}
+use Rattle.printed_text.proofs.Gathered.{cut_less}
 use Rattle.task_turns.proofs.OwnPrograms.{program_at, player_at, own_run}
 use Rattle.tk_tasks.proofs.FirstPlayers.{boot_player, each_first, each_last, first_going}
 use Rattle.cli_words.specs.declared.request.TaskRequest.{TaskRequest}

@@ -18,7 +18,7 @@ use crate::job::{Outcome, tell_no_memory};
 use crate::running::{run_silently, tell_end};
 use byte_streams::{Sink, put};
 use cli_words::{Request, Status};
-use flash_model::{Flash, Layout};
+use flash_model::Flash;
 use input_script::Script;
 use printed_text::restart_line;
 use std::alloc::Global;
@@ -55,7 +55,7 @@ pub(crate) fn restart_request<K: Sink>(
     };
     let layout = first.kernel.layout;
     let cursor = first.take_cursor();
-    let mut flash = lost_flash(first, &layout);
+    let mut flash = lost_flash(first);
     let told = restart(&mut flash, image.words(), &layout);
     let mut machine = Machine::over(flash, &image, again, swap, options.quantum);
     machine.keep_cursor(cursor);
@@ -67,11 +67,10 @@ pub(crate) fn restart_request<K: Sink>(
 }
 
 /// The flash of a machine after power was lost: where an operation was refused, its page has other words.
-fn lost_flash(machine: Machine, layout: &Layout) -> Flash
-    requires layout { layout.now ≡ machine.kernel.layout }
+fn lost_flash(machine: Machine) -> Flash
     ensures lost { result ≡ flash_lost machine }
     // The pages outside the pool have their form.
-    ensures around { HaveFormsAround layout.now (image_held machine.kernel) result.words }
+    ensures around { HaveFormsAround machine.kernel.layout (image_held machine.kernel) result.words }
     ensures sound { result.failing ≡ [] }
     ensures few { result.ops ≤ 2 }
 {
@@ -79,7 +78,7 @@ fn lost_flash(machine: Machine, layout: &Layout) -> Flash
     let mut flash = machine.kernel.mote.flash;
     let page = flash.refused();
     flash.renew();
-    lose(&mut flash, layout, op, page);
+    lose(&mut flash, op, page);
     flash
 }
 

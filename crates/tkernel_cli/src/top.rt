@@ -27,7 +27,9 @@ impl Exit {
     pub fn into_status(self) -> Status
         ensures status { result ≡ self.status }
     {
-        self.status
+        let status = self.status;
+        drop(self);
+        status
     }
 }
 

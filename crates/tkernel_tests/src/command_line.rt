@@ -1,4 +1,4 @@
-//! The words of a command line that are accepted. `.ci/shell` tries those that are refused, and `words_tests` those of `run`
+//! The words of a command line that are accepted. `.ci/shell` tries those that are refused, and `run_words` those of `run`
 //! by another reader.
 use crate::support::words_of;
 use std::test::Fail;

@@ -1,6 +1,6 @@
 //! Tests of the whole program that no case of crate `tkernel_cases` can make: its words as data, streams that fail or are
 //! slow, and what the machine that a call keeps holds; of the calls of crate `theorem_reader`;
-//! and of the views of crate `tk_watch`.
+//! of the views of crate `tk_watch`; and of the words of `run`, which the crate `clap` reads too.
 #![tactic(auto)]
 
 #[cfg(test)]
@@ -15,6 +15,8 @@ mod kept_machines;
 mod reader;
 #[cfg(test)]
 mod restarts;
+#[cfg(test)]
+mod run_words;
 #[cfg(test)]
 mod slow_streams;
 #[cfg(test)]

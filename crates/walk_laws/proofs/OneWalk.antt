@@ -26,36 +26,36 @@ free_or_owed x w free owes = absurd (let e : None ≡ Some w = sym free ∙ owes
 pub true_or_false : {A : Type 0} → ◌≡◌ {A = Bool} true false → A
 true_or_false e = absurd (cc)
 
-one_move : (x y z : State) (m n : Move) → IsRight x.kernel.layout → Makes x m y → Makes x n z → (m ≡ n) × (y ≡ z)
-one_move x y z (Begin line) (Begin line') right one other = let same = one_plain x y z true true line line' one other in (ap (λ l. Begin l) same.1, same.2)
-one_move x y z (Begin line) (Within (Plain line')) right one other = true_or_false (one_plain x y z true false line line' one other).0
-one_move x y z (Begin line) (Within (Serve line' stops)) right one other = absurd (plain_or_service x y z true stops line line' right one other)
-one_move x y z (Begin line) (Arrive target made ops) right one other = free_or_owed x other.owed one.free other.owes
-one_move x y z (Begin line) (Take stops) right one other = free_or_owed x other.owed one.free other.owes
-one_move x y z (Within (Plain line)) (Begin line') right one other = true_or_false (sym (one_plain x y z false true line line' one other).0)
-one_move x y z (Within (Plain line)) (Within (Plain line')) right one other = let same = one_plain x y z false false line line' one other in (ap (λ l. Within (Plain l)) same.1, same.2)
-one_move x y z (Within (Plain line)) (Within (Serve line' stops)) right one other = absurd (plain_or_service x y z false stops line line' right one other)
-one_move x y z (Within (Plain line)) (Arrive target made ops) right one other = free_or_owed x other.owed one.free other.owes
-one_move x y z (Within (Plain line)) (Take stops) right one other = free_or_owed x other.owed one.free other.owes
-one_move x y z (Within (Serve line stops)) (Begin line') right one other = absurd (plain_or_service x z y true stops line' line right other one)
-one_move x y z (Within (Serve line stops)) (Within (Plain line')) right one other = absurd (plain_or_service x z y false stops line' line right other one)
-one_move x y z (Within (Serve line stops)) (Within (Serve line' stops')) right one other =
+one_move : (x : State) {y z : State} (m n : Move) → IsRight x.kernel.layout → Makes x m y → Makes x n z → (m ≡ n) × (y ≡ z)
+one_move x {y} {z} (Begin line) (Begin line') right one other = let same = one_plain x y z true true line line' one other in (ap (λ l. Begin l) same.1, same.2)
+one_move x {y} {z} (Begin line) (Within (Plain line')) right one other = true_or_false (one_plain x y z true false line line' one other).0
+one_move x {y} {z} (Begin line) (Within (Serve line' stops)) right one other = absurd (plain_or_service x y z true stops line line' right one other)
+one_move x (Begin line) (Arrive target made ops) right one other = free_or_owed x other.owed one.free other.owes
+one_move x (Begin line) (Take stops) right one other = free_or_owed x other.owed one.free other.owes
+one_move x {y} {z} (Within (Plain line)) (Begin line') right one other = true_or_false (sym (one_plain x y z false true line line' one other).0)
+one_move x {y} {z} (Within (Plain line)) (Within (Plain line')) right one other = let same = one_plain x y z false false line line' one other in (ap (λ l. Within (Plain l)) same.1, same.2)
+one_move x {y} {z} (Within (Plain line)) (Within (Serve line' stops)) right one other = absurd (plain_or_service x y z false stops line line' right one other)
+one_move x (Within (Plain line)) (Arrive target made ops) right one other = free_or_owed x other.owed one.free other.owes
+one_move x (Within (Plain line)) (Take stops) right one other = free_or_owed x other.owed one.free other.owes
+one_move x {y} {z} (Within (Serve line stops)) (Begin line') right one other = absurd (plain_or_service x z y true stops line' line right other one)
+one_move x {y} {z} (Within (Serve line stops)) (Within (Plain line')) right one other = absurd (plain_or_service x z y false stops line' line right other one)
+one_move x {y} {z} (Within (Serve line stops)) (Within (Serve line' stops')) right one other =
     let same = one_service x y z stops stops' line line' one other in
     (ap₂ (λ l s. Within (Serve l s)) same.0 same.1, same.2)
-one_move x y z (Within (Serve line stops)) (Arrive target made ops) right one other = free_or_owed x other.owed one.free other.owes
-one_move x y z (Within (Serve line stops)) (Take stops') right one other = free_or_owed x other.owed one.free other.owes
-one_move x y z (Arrive target made ops) (Begin line) right one other = free_or_owed x one.owed other.free one.owes
-one_move x y z (Arrive target made ops) (Within (Plain line)) right one other = free_or_owed x one.owed other.free one.owes
-one_move x y z (Arrive target made ops) (Within (Serve line stops)) right one other = free_or_owed x one.owed other.free one.owes
-one_move x y z (Arrive target made ops) (Arrive target' made' ops') right one other =
+one_move x (Within (Serve line stops)) (Arrive target made ops) right one other = free_or_owed x other.owed one.free other.owes
+one_move x (Within (Serve line stops)) (Take stops') right one other = free_or_owed x other.owed one.free other.owes
+one_move x (Arrive target made ops) (Begin line) right one other = free_or_owed x one.owed other.free one.owes
+one_move x (Arrive target made ops) (Within (Plain line)) right one other = free_or_owed x one.owed other.free one.owes
+one_move x (Arrive target made ops) (Within (Serve line stops)) right one other = free_or_owed x one.owed other.free one.owes
+one_move x {y} {z} (Arrive target made ops) (Arrive target' made' ops') right one other =
     let same = one_arrival x y z target target' ops ops' made made' one other in
     (ap (λ t. Arrive t made ops) same.0 ∙ ap₂ (λ b k. Arrive target' b k) same.1 same.2, same.3)
-one_move x y z (Arrive target made ops) (Take stops) right one other = absurd (arrival_or_interrupt x y z target ops made stops one other)
-one_move x y z (Take stops) (Begin line) right one other = free_or_owed x one.owed other.free one.owes
-one_move x y z (Take stops) (Within (Plain line)) right one other = free_or_owed x one.owed other.free one.owes
-one_move x y z (Take stops) (Within (Serve line stops')) right one other = free_or_owed x one.owed other.free one.owes
-one_move x y z (Take stops) (Arrive target made ops) right one other = absurd (arrival_or_interrupt x z y target ops made stops other one)
-one_move x y z (Take stops) (Take stops') right one other = let same = one_interrupt x y z stops stops' one other in (ap (λ s. Take s) same.0, same.1)
+one_move x {y} {z} (Arrive target made ops) (Take stops) right one other = absurd (arrival_or_interrupt x y z target ops made stops one other)
+one_move x (Take stops) (Begin line) right one other = free_or_owed x one.owed other.free one.owes
+one_move x (Take stops) (Within (Plain line)) right one other = free_or_owed x one.owed other.free one.owes
+one_move x (Take stops) (Within (Serve line stops')) right one other = free_or_owed x one.owed other.free one.owes
+one_move x {y} {z} (Take stops) (Arrive target made ops) right one other = absurd (arrival_or_interrupt x z y target ops made stops other one)
+one_move x {y} {z} (Take stops) (Take stops') right one other = let same = one_interrupt x y z stops stops' one other in (ap (λ s. Take s) same.0, same.1)
 
 -- The layout stays. ---------------------------------------------------------------------------------------
 
@@ -85,18 +85,18 @@ pub data Compare (ms ns : List Move) (y z : State) : Type 0 where
   Behind : (rest : List Move) → ns ≡ ms ++ rest → Walk y rest z → Compare ms ns y z
   Ahead : (rest : List Move) → ms ≡ ns ++ rest → Walk z rest y → Compare ms ns y z
 
-one_longer : (m : Move) (ms ns : List Move) (y z : State) → Compare ms ns y z → Compare (m ∷ ms) (m ∷ ns) y z
-one_longer m ms ns y z (Behind rest is walk) = Behind rest (ap (λ l. m ∷ l) is) walk
-one_longer m ms ns y z (Ahead rest is walk) = Ahead rest (ap (λ l. m ∷ l) is) walk
+one_longer : (m : Move) {ms ns : List Move} {y z : State} → Compare ms ns y z → Compare (m ∷ ms) (m ∷ ns) y z
+one_longer m (Behind rest is walk) = Behind rest (ap (λ l. m ∷ l) is) walk
+one_longer m (Ahead rest is walk) = Ahead rest (ap (λ l. m ∷ l) is) walk
 
 pub compare : (x y z : State) (ms ns : List Move) → IsRight x.kernel.layout → Walk x ms y → Walk x ns z → Compare ms ns y z
 compare x y z [] ns right one other = Behind ns refl (subst (λ (s : State). Walk s ns z) one other)
 compare x y z (m ∷ ms) [] right one other = Ahead (m ∷ ms) refl (subst (λ (s : State). Walk s (m ∷ ms) y) other one)
 compare x y z (m ∷ ms) (n ∷ ns) right one other =
-    let same = one_move x one.0 other.0 m n right one.1 other.1 in
+    let same = one_move x m n right one.1 other.1 in
     let next = subst IsRight (sym (layout_kept x one.0 m one.1)) right in
     let there = subst (λ (s : State). Walk s ns z) (sym same.1) other.2 in
-    subst (λ k. Compare (m ∷ ms) (k ∷ ns) y z) same.0 (one_longer m ms ns y z (compare one.0 y z ms ns next one.2 there))
+    subst (λ k. Compare (m ∷ ms) (k ∷ ns) y z) same.0 (one_longer m (compare one.0 y z ms ns next one.2 there))
 
 -- The moves of steps. -------------------------------------------------------------------------------------
 

@@ -1,6 +1,5 @@
 -- Words that begin with an instruction's words are its row, and the other way round.
-use Rattle.std.proofs.Common.{◌≡◌, ℕ, IsTrue, Option, MatchOption, ◌∙◌, sym, subst}
-use Rattle.std.specs.Bool.{⊤}
+use Rattle.std.proofs.Common.{◌≡◌, ℕ, IsTrue, ◌∙◌, sym}
 use Rattle.avr_isa.specs.declared.form.Form.{Form}
 use Rattle.avr_isa.specs.Instruction.{is_valid}
 use Rattle.avr_isa.specs.Encoding.{first_word, second_word, IsRow}
@@ -13,14 +12,14 @@ row_of : (f : Form) (words : Words) (a b : ℕ) → words.first ≡ first_word f
 row_of f words a b opcode address begin =
     record {
       opcode = begin.opcode ∙ opcode;
-      address = subst (λ (o : Option ℕ). MatchOption o ⊤ (λ s. b ≡ s)) address begin.address;
+      address = rw address at begin.address;
     }
 
 begins : (f : Form) (words : Words) (a b : ℕ) → words.first ≡ first_word f → words.second ≡ second_word f → IsRow f a b → BeginWith words a b
 begins f words a b opcode address row =
     record {
       opcode = row.opcode ∙ sym opcode;
-      address = subst (λ (o : Option ℕ). MatchOption o ⊤ (λ s. b ≡ s)) (sym address) row.address;
+      address = rw address row.address;
     }
 
 pub returns-clause-decodes : goal.returns-clause-decodes

@@ -7,4 +7,4 @@ pub returns-in-Some-clause-found : goal.returns-in-Some-clause-found
 returns-in-Some-clause-found c = Finds.Hit c.in-Some.place (sym c.hit.ensures.value ∙ c.in-Some.is) refl refl
 
 pub returns-in-None-clause-found : goal.returns-in-None-clause-found
-returns-in-None-clause-found c = found_in_pool c.args.layout.now c.args.flash.now.words c.args.sram.now c.args.t c.entry.result (sym c.hit.ensures.value ∙ c.in-None.is) c.entry.ensures.found c.entry.ensures.only
+returns-in-None-clause-found c = found_in_pool _ _ _ _ _ (sym c.hit.ensures.value ∙ c.in-None.is) c.entry.ensures.found c.entry.ensures.only

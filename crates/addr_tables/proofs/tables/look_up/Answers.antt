@@ -12,4 +12,4 @@ pub returns-in-None-clause-found : goal.returns-in-None-clause-found
 returns-in-None-clause-found c =
     let layout = c.args.layout.now in
     let words = c.args.flash.now.words in
-    found_in_pool layout words c.args.sram.now c.args.t (result_ok c.find.result) (sym c.hit.ensures.value ∙ c.in-None.is) (if_ok (λ v. IsEntry layout words c.args.t v) c.find.result c.find.ensures.found) (λ v entry. ap result_ok (c.find.ensures.only v entry))
+    found_in_pool _ _ _ _ _ (sym c.hit.ensures.value ∙ c.in-None.is) (if_ok (IsEntry layout words c.args.t) c.find.result c.find.ensures.found) (λ v entry. ap result_ok (c.find.ensures.only v entry))

@@ -4,7 +4,7 @@ use Rattle.avr_asm.proofs.first_pass.first_pass.Goals as goal
 
 pub lines-preserved : goal.lines-preserved
 lines-preserved c = record {
-  part = first_part_more c.args.text.now c.first_line.result.0.now c.lines.rest.now c.first_line.result.1.now c.lines.number c.lines.pass c.take.new.self c.lines.invariant.part c.first_line.ensures.lines c.in-Ok.ensures.taken;
+  part = first_part_more c.lines.invariant.part c.first_line.ensures.lines c.in-Ok.ensures.taken;
   short = omega (arith, c.first_line.ensures.shorter, c.lines.invariant.short);
 }
 

@@ -5,12 +5,11 @@ use Rattle.avr_asm.proofs.second_pass.second_pass.Goals as goal
 
 pub lines-preserved : goal.lines-preserved
 lines-preserved c =
-    let text = c.args.text.now in
-    let added = c.in-Ok.ensures.added (labels_of text) c.requires.labels in
+    let added = c.in-Ok.ensures.added (labels_of c.args.text.now) c.requires.labels in
     record {
-      part = second_part_more text c.first_line.result.0.now c.lines.rest.now c.first_line.result.1.now c.lines.number c.lines.words.items c.add_line.new.words.items c.lines.invariant.part c.first_line.ensures.lines added;
+      part = second_part_more c.lines.invariant.part c.first_line.ensures.lines added;
       short = omega (arith, c.first_line.ensures.shorter, c.lines.invariant.short);
-      few = omega (arith, few_more _ _ _ _ added, c.lines.invariant.few);
+      few = omega (arith, few_more added, c.lines.invariant.few);
     }
 
 pub returns-clause-assembled : goal.returns-clause-assembled

@@ -1,25 +1,21 @@
-use Rattle.std.proofs.Common.{◌≡◌, ◌/◌, arith, refl, sym, ap, ◌∙◌, subst}
+use Rattle.std.proofs.Common.{◌/◌, arith, refl, sym, ap, ◌∙◌}
 use Rattle.flash_words.specs.Pages.{page_words}
 use Rattle.flash_words.specs.Layouts.{image_of}
 use Rattle.page_draft.specs.Standing.{jump_word}
 use Rattle.nat_page.proofs.RelinkLaws.{link_placed}
 use Rattle.nat_page.proofs.UnlinkLaws.{page_of_two}
-use Rattle.branch_bridge.specs.Operating.{Performed, perform, rewriting, stop_of}
-use Rattle.branch_bridge.specs.Resolving.{resolving}
-use Rattle.branch_bridge.proofs.ResolveLaws.{ResolveTold, told_resolving}
+use Rattle.branch_bridge.specs.Operating.{perform, rewriting}
+use Rattle.branch_bridge.proofs.ResolveLaws.{told_resolving}
 use Rattle.branch_bridge.proofs.resolving.resolve.Goals as goal
 
 pub patched-words-requires : goal.patched-words-requires
 patched-words-requires c =
-    let words = c.args.flash.now.words in
-    let stub = c.requires.stub in
-    record { room = (link_placed c.args.layout.now (image_of c.args.layout.now words) words c.args.stub stub.target jump_word c.args.place c.requires.right c.requires.code.whole stub.unresolved.link).room }
+    record { room = (link_placed _ _ _ _ _ jump_word c.args.place c.requires.right c.requires.code.whole c.requires.stub.unresolved.link).room }
 
 pub rewrite-requires-clause-page : goal.rewrite-requires-clause-page
 rewrite-requires-clause-page c =
     let words = c.args.flash.now.words in
-    let stub = c.requires.stub in
-    omega (arith, (link_placed c.args.layout.now (image_of c.args.layout.now words) words c.args.stub stub.target jump_word c.args.place c.requires.right c.requires.code.whole stub.unresolved.link).low)
+    omega (arith, (link_placed _ _ words _ _ jump_word c.args.place c.requires.right c.requires.code.whole c.requires.stub.unresolved.link).low)
 
 pub returns : goal.returns
 returns c =
@@ -32,9 +28,8 @@ returns c =
     let can = c.requires.stub in
     let placed = link_placed layout image old.words s can.target jump_word place c.requires.right c.requires.code.whole can.unresolved.link in
     let same = c.patched-words.ensures.words ∙ sym (page_of_two old.words (s / page_words) s jump_word place (omega (arith, c.requires.code.whole, placed.low)) refl placed.room) in
-    let performed : perform old (resolving old.words s place) ≡ record { memory = new; stop = stop_of c.rewrite.result } = sym (ap (λ w. perform old (rewriting (s / page_words) w)) same) ∙ c.rewrite.ensures.performed in
-    let Told : Performed → Type 0 = λ p. ResolveTold layout image old p in
-    let told = subst Told performed (told_resolving layout image old s can.target place c.requires.right c.requires.code can.unresolved can.entry) in
+    let performed = sym (ap (λ w. perform old (rewriting (s / page_words) w)) same) ∙ c.rewrite.ensures.performed in
+    let told = rw performed at (told_resolving layout image old s can.target place c.requires.right c.requires.code can.unresolved can.entry) in
     record {
       performed = performed;
       code = told.code;

@@ -9,5 +9,6 @@ returns c =
     let place = c.args.place in
     record {
       arrives = λ layout flash known. known_arrives layout flash old new t place (known_inside layout flash old t place known) (known_finds layout flash old new t place known c.note.ensures.after);
-      kept = λ layout flash known. known_kept layout flash old new t place known.right known.code known.ring (known_inside layout flash old t place known) (known_finds layout flash old new t place known c.note.ensures.after) (c.note.ensures.tables layout flash.words known.entry known.tables) known.entry;
+      kept = λ layout flash known. known_kept _ _ _ _ _ _ known.right known.code known.ring (known_inside _ _ _ _ _ known) (known_finds _ _ _ _ _ _ known c.note.ensures.after)
+          (c.note.ensures.tables layout flash.words known.entry known.tables) known.entry;
     }

@@ -3,9 +3,9 @@ use Rattle.flash_words.specs.Layouts.{image_of}
 use Rattle.nat_page.specs.Links.{IsUnresolved}
 use Rattle.branch_bridge.specs.declared.arrival.Refused.{Refused}
 use Rattle.branch_bridge.specs.declared.through.Arrival.{Arrival}
-use Rattle.branch_bridge.specs.Operating.{Performed, stop_of, mended, with_torn}
-use Rattle.branch_bridge.specs.Arrivals.{Store, CameThrough, ArrivesFrom, Stopped, Went, Resolved, torn_by, IsOwnStub}
-use Rattle.nat_page.specs.Parts.{IsLinkFrom, IsParted}
+use Rattle.branch_bridge.specs.Operating.{stop_of, mended, with_torn}
+use Rattle.branch_bridge.specs.Arrivals.{Store, ArrivesFrom, Stopped, Went, Resolved, torn_by}
+use Rattle.nat_page.specs.Parts.{IsLinkFrom}
 use Rattle.branch_bridge.proofs.PartLaws.{arrives_parted, resolved_parted}
 use Rattle.nat_page.specs.Used.{used_pages}
 use Rattle.branch_bridge.proofs.ArrivalLaws.{flash_left}
@@ -50,10 +50,10 @@ resolve-requires-clause-stub c =
     let moved = c.in-Ok.moved in
     let s = c.in-Some.stub in
     let is : IsToResolve moved.recycled c.args.stub s = is_to_resolve moved.recycled c.args.stub s (sym c.to_resolve.ensures.value ∙ c.in-Some.is) in
-    let from : IsUnresolved layout (image_of layout old) old s c.args.t = subst (λ stub. CameThrough layout old stub c.args.t) is.same c.requires.stub in
+    let from : IsUnresolved layout (image_of layout old) old s c.args.t = rw is.same at c.requires.stub in
     record {
       target = c.args.t;
-      unresolved = subst (λ i. IsUnresolved layout i c.arrive_with_hints.new.flash.words s c.args.t) (sym c.in-Ok.ensures.kept.same_image) (c.in-Ok.ensures.kept.stubs s c.args.t is.apart from);
+      unresolved = rw c.in-Ok.ensures.kept.same_image (c.in-Ok.ensures.kept.stubs s c.args.t is.apart from);
       entry = c.in-Ok.ensures.kept.entered c.requires.tables;
     }
 
@@ -68,9 +68,10 @@ returns-in-Some c =
     let words = c.resolve.new.flash.words in
     let left : List ℕ = with_torn words (torn_by c.refusal-refused.result) in
     let is : left ≡ mended words (stop_of c.resolve.result) = ap (λ r. with_torn words (torn_by r)) c.refusal-refused.ensures.value ∙ mended_is words (stop_of c.resolve.result) in
-    let entry : (a v : ℕ) → IsEntry layout mid.flash.words a v → IsEntry layout left a v = λ a v e. subst (λ w. IsEntry layout w a v) (sym is) ((c.resolve.ensures.entries a v).0 e) in
+    let entry : (a v : ℕ) → IsEntry layout mid.flash.words a v → IsEntry layout left a v = λ a v e. rw is ((c.resolve.ensures.entries a v).0 e) in
     let code : IsFaithful layout (image_of layout mid.flash.words) left = subst (IsFaithful layout (image_of layout mid.flash.words)) (sym is) c.resolve.ensures.code in
-    let arrives : ArrivesFrom layout old new c.args.t c.args.stub (told c.refusal-refused.result) = Resolved mid c.in-Ok.moved c.in-Some.stub c.in-Ok.ensures.arrives (sym c.to_resolve.ensures.value ∙ c.in-Some.is) (stop_of c.resolve.result) c.resolve.ensures.performed refl (ap told c.refusal-refused.ensures.value) in
+    let arrives = Resolved mid c.in-Ok.moved c.in-Some.stub c.in-Ok.ensures.arrives (sym c.to_resolve.ensures.value ∙ c.in-Some.is) (stop_of c.resolve.result) c.resolve.ensures.performed refl
+    (ap told c.refusal-refused.ensures.value) in
     let left_flash = flash_left layout old new c.args.t c.args.stub (told c.refusal-refused.result) c.requires.right c.requires.code.whole c.requires.ring c.requires.stub arrives in
     let image = image_of layout old.flash.words in
     let s = c.in-Some.stub in
@@ -78,16 +79,14 @@ returns-in-Some c =
       entries = λ unrefused a v away.
           let at : left ≡ words = ap (λ r. with_torn words (torn_by r)) unrefused in
           let both = c.in-Ok.ensures.entries a v away in
-          let Entry : List ℕ → Type 0 = λ w. IsEntry layout w a v in
-          (λ e. subst Entry at (entry a v (both.0 e)), λ e. both.1 ((c.resolve.ensures.entries a v).1 (subst Entry (sym at ∙ is) e)));
+          (λ e. rw at at (entry a v (both.0 e)), λ e. both.1 ((c.resolve.ensures.entries a v).1 (rw (sym at ∙ is) at e)));
       parts = λ part parted own.
           let to_own : IsToResolve c.in-Ok.moved.recycled c.args.stub s = is_to_resolve c.in-Ok.moved.recycled c.args.stub s (sym c.to_resolve.ensures.value ∙ c.in-Some.is) in
-          let stub : IsUnresolved layout image old.flash.words s c.args.t = subst (λ stub. CameThrough layout old.flash.words stub c.args.t) to_own.same c.requires.stub in
-          let from : IsLinkFrom layout image old.flash.words part (part c.args.t) s c.args.t = subst (λ stub. IsOwnStub layout old.flash.words part stub c.args.t) to_own.same own in
+          let stub : IsUnresolved layout image old.flash.words s c.args.t = rw to_own.same at c.requires.stub in
+          let from : IsLinkFrom layout image old.flash.words part (part c.args.t) s c.args.t = rw to_own.same at own in
           let gone = arrives_parted layout old mid part c.args.t (Ok c.in-Ok.moved) c.requires.right c.requires.code c.requires.ring c.in-Ok.ensures.arrives parted in
-          let P : Performed → Type 0 = λ p. IsParted layout image (mended p.memory.words p.stop) part in
-          subst (λ w. IsParted layout image w part) (sym is)
-          (subst P c.resolve.ensures.performed (resolved_parted layout image mid.flash part s c.args.t c.in-Ok.moved.place c.requires.right kept.code
+          rw is
+          (rw c.resolve.ensures.performed at (resolved_parted layout image mid.flash part s c.args.t c.in-Ok.moved.place c.requires.right kept.code
           (kept.stubs s c.args.t to_own.apart stub) (kept.entered c.requires.tables) (gone.1 (part c.args.t) s c.args.t to_own.apart from) gone.0));
       kept = record {
         used = ap (used_pages layout) is ∙ c.resolve.ensures.used ∙ c.in-Ok.ensures.used;
@@ -95,7 +94,7 @@ returns-in-Some c =
         image = left_flash.image;
         torn = left_flash.torn;
         rest = c.in-Ok.ensures.rest;
-        code = subst (λ i. IsFaithful layout i left) kept.same_image code;
+        code = rw kept.same_image at code;
         same_image = ap (image_of layout) is ∙ c.resolve.ensures.image ∙ kept.same_image;
         tables = tables_kept layout mid.sram mid.sram mid.flash.words left (λ a from to. refl) entry (kept.tables c.requires.tables);
         entered = entry c.args.t c.in-Ok.moved.place (kept.entered c.requires.tables);

@@ -2,7 +2,6 @@ use Rattle.std.proofs.Common.{◌≡◌, ℕ, true, arith, sym, ap, ◌∙◌}
 use Rattle.std.specs.Prelude.{◌≢◌, ◌==◌, not}
 use Rattle.std.proofs.lemmas.Bool.Decides.{nat_tests}
 use Rattle.flash_words.specs.Pages.{word_at}
-use Rattle.flash_words.specs.Layouts.{image_of}
 use Rattle.nat_page.specs.Used.{is_used}
 use Rattle.nat_page.proofs.WalkLaws.{code_page}
 use Rattle.branch_bridge.proofs.UnresolveLaws.{used_rewritten}
@@ -15,4 +14,4 @@ pub without_links-without-requires-clause-run : goal.without_links-without-requi
 without_links-without-requires-clause-run c =
     let words = c.args.flash.now.words in
     let used : is_used words c.args.page ≡ true = ap (λ w. not (w == 0xFFFF)) (ap (word_at words) (omega arith) ∙ sym c.word.ensures.value) ∙ not_blank c.word.result c.if-word.false in
-    code_page c.args.layout.now (image_of c.args.layout.now words) words c.args.page (used_rewritten c.args.layout.now (image_of c.args.layout.now words) words c.args.page c.requires.code c.requires.pool used)
+    code_page _ _ _ _ (used_rewritten _ _ _ _ c.requires.code c.requires.pool used)

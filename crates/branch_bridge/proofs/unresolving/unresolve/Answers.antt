@@ -1,5 +1,5 @@
 use Rattle.std.proofs.Common.{◌≡◌, ℕ, ◌+◌, ◌-◌, ◌≤◌, arith, subst}
-use Rattle.branch_bridge.proofs.UpToLaws.{UpTo, IsStopped, up_to_none, up_to_page, up_to_done, up_to_stopped}
+use Rattle.branch_bridge.proofs.UpToLaws.{UpTo, up_to_none, up_to_page, up_to_done, up_to_stopped}
 use Rattle.branch_bridge.proofs.unresolving.unresolve.Goals as goal
 
 pub pages-init : goal.pages-init
@@ -14,7 +14,7 @@ pages-preserved c =
     let at = c.pages.invariant in
     let page = c.in-Some.page in
     let start : layout.pool_first ≤ page = omega (arith, at.start, c.in-Some.ensures.range.0) in
-    let before = up_to_page layout c.args.flash.now c.pages.flash c.args.victim c.pages.from page c.requires.right at.start c.in-Some.ensures.range.0 (omega (arith, c.in-Some.ensures.range.1)) at.up c.in-Some.ensures.lowest in
+    let before = up_to_page _ _ _ _ _ _ c.requires.right at.start c.in-Some.ensures.range.0 (omega (arith, c.in-Some.ensures.range.1)) at.up c.in-Some.ensures.lowest in
     record {
       start = omega arith;
       below = omega (arith, c.in-Some.ensures.range.1);
@@ -30,8 +30,8 @@ returns-in-Err c =
     let at = c.pages.invariant in
     let page = c.in-Some.page in
     let start : layout.pool_first ≤ page = omega (arith, at.start, c.in-Some.ensures.range.0) in
-    let before = up_to_page layout c.args.flash.now c.pages.flash c.args.victim c.pages.from page c.requires.right at.start c.in-Some.ensures.range.0 (omega (arith, c.in-Some.ensures.range.1)) at.up c.in-Some.ensures.lowest in
-    let stopped : IsStopped layout c.args.flash.now c.unlink_page.new.flash c.args.victim c.in-Err.stop = up_to_stopped layout c.args.flash.now c.pages.flash c.unlink_page.new.flash c.args.victim page c.in-Err.stop c.requires.right start c.in-Some.ensures.range.1 before c.in-Err.ensures.performed in
+    let before = up_to_page _ _ _ _ _ _ c.requires.right at.start c.in-Some.ensures.range.0 (omega (arith, c.in-Some.ensures.range.1)) at.up c.in-Some.ensures.lowest in
+    let stopped = up_to_stopped _ _ _ _ _ _ _ c.requires.right start c.in-Some.ensures.range.1 before c.in-Err.ensures.performed in
     record { performed = stopped.performed; code = stopped.code; image = stopped.same_image; entries = stopped.entries; apart = tt; same = tt; stubs = tt; uses = stopped.uses; ops = stopped.ops }
 
 pub returns : goal.returns
@@ -39,5 +39,16 @@ returns c =
     let layout = c.args.layout.now in
     let at = c.pages.invariant in
     let whole : layout.pool_first + layout.pool_pages - layout.pool_first ≡ layout.pool_pages = omega arith in
-    let up : UpTo layout c.args.flash.now c.pages.flash c.args.victim layout.pool_pages = subst (λ (n : ℕ). UpTo layout c.args.flash.now c.pages.flash c.args.victim n) whole (up_to_page layout c.args.flash.now c.pages.flash c.args.victim c.pages.from (layout.pool_first + layout.pool_pages) c.requires.right at.start at.below (omega arith) at.up c.in_default.ensures.none) in
-    record { performed = up.performed; code = up.code; image = up.same_image; entries = up.entries; apart = λ page pool away. up.apart page pool pool.to away; same = up.entries_back; stubs = up.stubs; uses = up.uses; ops = up.ops }
+    let up : UpTo layout c.args.flash.now c.pages.flash c.args.victim layout.pool_pages =
+    rw whole at (up_to_page _ _ _ _ _ _ c.requires.right at.start at.below (omega arith) at.up c.in_default.ensures.none) in
+    record {
+      performed = up.performed;
+      code = up.code;
+      image = up.same_image;
+      entries = up.entries;
+      apart = λ page pool away. up.apart page pool pool.to away;
+      same = up.entries_back;
+      stubs = up.stubs;
+      uses = up.uses;
+      ops = up.ops;
+    }

@@ -5,8 +5,11 @@ use Rattle.byte_streams.specs.Streams.{Gives, input_of}
 use Rattle.byte_streams.proofs.source.read_all.Goals as goal
 
 pub returns-then-taken-limit-clause-bytes : goal.returns-then-taken-limit-clause-bytes
-returns-then-taken-limit-clause-bytes g c =
-    (c.loop-bytes.bytes.items ++ take c.in-Ok.taken c.read.new.buf, grind (arith, common_steps, c.in-Ok.ensures.bound.0, c.in-Ok.ensures.bound.1, c.read.auto.buf), gives_both _ _ _ _ _ c.loop-bytes.invariant.taken (record { left = c.in-Ok.ensures.bytes.0; given = c.in-Ok.ensures.gives }))
+returns-then-taken-limit-clause-bytes g c = (
+  c.loop-bytes.bytes.items ++ take c.in-Ok.taken c.read.new.buf,
+  grind (arith, common_steps, c.in-Ok.ensures.bound.0, c.in-Ok.ensures.bound.1, c.read.auto.buf),
+  gives_both _ _ _ _ _ c.loop-bytes.invariant.taken (record { left = c.in-Ok.ensures.bytes.0; given = c.in-Ok.ensures.gives }),
+)
 
 pub returns-then-is_err-clause-bytes : goal.returns-then-is_err-clause-bytes
 returns-then-is_err-clause-bytes g c = (
@@ -16,12 +19,16 @@ returns-then-is_err-clause-bytes g c = (
 )
 
 pub returns-in-Err-clause-bytes : goal.returns-in-Err-clause-bytes
-returns-in-Err-clause-bytes g c =
-    (length c.loop-bytes.bytes.items, grind (arith, common_steps, c.loop-bytes.invariant.within), (c.loop-bytes.bytes.items, refl, gives_kept _ _ _ _ c.loop-bytes.invariant.taken c.in-Err.ensures.bytes c.in-Err.ensures.gives))
+returns-in-Err-clause-bytes g c = (
+  length c.loop-bytes.bytes.items,
+  grind (arith, common_steps, c.loop-bytes.invariant.within),
+  (c.loop-bytes.bytes.items, refl, gives_kept _ _ _ _ c.loop-bytes.invariant.taken c.in-Err.ensures.bytes c.in-Err.ensures.gives),
+)
 
 pub returns-then-taken-eq0-clause-bytes : goal.returns-then-taken-eq0-clause-bytes
 returns-then-taken-eq0-clause-bytes g c =
     let none : take c.in-Ok.taken c.read.new.buf ≡ [] = ap (λ n. take n c.read.new.buf) c.if-taken-eq0.true in
-    let more = subst (λ bytes. Gives (input_of g.S.Source.left g.S.Source.given g.S.Source.faults c.loop-bytes.s) (input_of g.S.Source.left g.S.Source.given g.S.Source.faults c.read.new.self) bytes) none
+    let more = subst (λ bytes. Gives (input_of g.S.Source.left g.S.Source.given g.S.Source.faults c.loop-bytes.s)
+    (input_of g.S.Source.left g.S.Source.given g.S.Source.faults c.read.new.self) bytes) none
     (record { left = c.in-Ok.ensures.bytes.0; given = c.in-Ok.ensures.gives }) in
     (grind (arith, common_steps, c.loop-bytes.invariant.within), gives_no_more _ _ _ _ c.loop-bytes.invariant.taken more, search rules)

@@ -4,9 +4,7 @@ use Rattle.flash_dump.proofs.dump.read_dump.Goals as goal
 
 pub lines-preserved : goal.lines-preserved
 lines-preserved c = record {
-  read =
-      read_more c.args.text.now c.lines.rest.now c.first_line.result.0.now c.first_line.result.1.now c.lines.least c.in-Ok.after c.lines.number c.lines.flash c.take_line.new.flash
-      c.lines.invariant.read c.first_line.ensures.lines c.in-Ok.ensures.taken;
+  read = read_more _ _ _ _ _ _ _ _ _ c.lines.invariant.read c.first_line.ensures.lines c.in-Ok.ensures.taken;
   low = c.in-Ok.ensures.taken.low;
   short = omega (arith, c.first_line.ensures.shorter, c.lines.invariant.short);
 }

@@ -1,7 +1,7 @@
 use Rattle.std.proofs.Common.{◌≡◌, ◌++◌, length, ap, ◌∙◌, sym, arith}
 use Rattle.std.specs.Prelude.{flat_map}
 use Rattle.flash_words.proofs.PageLaws.{length-page_of}
-use Rattle.line_reader.specs.Written.{fed}
+use Rattle.text_lines.specs.Written.{fed}
 use Rattle.flash_dump.specs.WrittenDumps.{lines_of_page, lines_of_pages}
 use Rattle.flash_dump.proofs.WrittenLaws.{one_page_more}
 use Rattle.flash_dump.proofs.dump_writing.text_of.Goals as goal
@@ -26,7 +26,4 @@ pages-preserved c =
 pub returns : goal.returns
 returns c =
     let all : c.pages.page ≡ 512 = omega (arith, c.pages-test.false) in
-    record {
-      text = c.pages.invariant.said ∙ ap (λ n. flat_map fed (lines_of_pages c.args.flash.now.words 0 n)) all;
-      whole = c.pages.invariant.whole (omega (arith, all));
-    }
+    record { text = c.pages.invariant.said ∙ ap (λ n. flat_map fed (lines_of_pages c.args.flash.now.words 0 n)) all; whole = c.pages.invariant.whole (omega (arith, all)) }

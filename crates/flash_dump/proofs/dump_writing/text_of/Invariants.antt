@@ -1,7 +1,7 @@
 use Rattle.std.proofs.Common.{◌≡◌, ◌<◌}
 use Rattle.std.specs.Prelude.{flat_map}
 use Rattle.flash_words.specs.Memory.{IsWhole}
-use Rattle.line_reader.specs.Written.{fed}
+use Rattle.text_lines.specs.Written.{fed}
 use Rattle.flash_dump.specs.WrittenDumps.{lines_of_pages}
 use Rattle.flash_dump.proofs.dump_writing.text_of.Given as goal
 

@@ -1,7 +1,6 @@
 use Rattle.std.proofs.Common.{ℕ, arith, subst, inl, inr}
-use Rattle.std.proofs.lemmas.Bool.{cases_lt}
+use Rattle.std.proofs.lemmas.Bool.{both_ways, cases_lt}
 use Rattle.flash_words.specs.JumpSets.{IsSource}
-use Rattle.flash_words.proofs.JumpLaws.{true_not_false}
 use Rattle.flash_words.proofs.jumps.add_source_of_each.Goals as goal
 
 pub targets-init : goal.targets-init
@@ -13,7 +12,7 @@ targets-preserved c = record {
   here = λ target below has. elim (cases_lt target c.targets.from) [
     | inl earlier ↦ c.add_source.ensures.others target c.args.page (c.targets.invariant.here target earlier has)
     | inr later ↦ elim (cases_lt target c.in-Some.target) [
-      | inl between ↦ absurd (true_not_false _ has (c.in-Some.ensures.lowest target later between))
+      | inl between ↦ absurd (both_ways _ (c.in-Some.ensures.lowest target later between) has)
       | inr same ↦ subst (λ (t : ℕ). IsSource c.add_source.new.sources.items t c.args.page) (omega arith) c.add_source.ensures.here
     ]
   ];
@@ -23,5 +22,5 @@ targets-preserved c = record {
 pub returns-clause-here : goal.returns-clause-here
 returns-clause-here c = λ target few has. elim (cases_lt target c.targets.from) [
   | inl earlier ↦ c.targets.invariant.here target earlier has
-  | inr later ↦ absurd (true_not_false _ has (c.in_default.ensures.none target later few))
+  | inr later ↦ absurd (both_ways _ (c.in_default.ensures.none target later few) has)
 ]

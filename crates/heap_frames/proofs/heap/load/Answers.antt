@@ -9,8 +9,7 @@ unfolding heap_load
 returns-then-slot-clause-loaded c =
     let before : Store = record { sram = c.args.sram.now; swap = c.args.swap.now } in
     let effect : (0, before) ≡ heap_load before c.args.a = search rules in
-    let P : ℕ × Store → Type 0 = λ r. Loaded before c.args.a r.0 r.1 in
-    subst P (sym effect) (load_leaves before c.args.a c.requires.heap c.requires.paged)
+    subst (λ (r : ℕ × Store). Loaded before c.args.a r.0 r.1) (sym effect) (load_leaves before c.args.a c.requires.heap c.requires.paged)
 
 pub returns-clause-loaded : goal.returns-clause-loaded
 unfolding heap_load
@@ -18,8 +17,7 @@ returns-clause-loaded c =
     let before : Store = record { sram = c.args.sram.now; swap = c.args.swap.now } in
     let after : Store = record { sram = c.seat-frame.new.sram; swap = c.seat-frame.new.swap } in
     let effect : (c.byte.result, after) ≡ heap_load before c.args.a = search rules in
-    let P : ℕ × Store → Type 0 = λ r. Loaded before c.args.a r.0 r.1 in
-    subst P (sym effect) (load_leaves before c.args.a c.requires.heap c.requires.paged)
+    subst (λ (r : ℕ × Store). Loaded before c.args.a r.0 r.1) (sym effect) (load_leaves before c.args.a c.requires.heap c.requires.paged)
 
 pub returns-clause-paged : goal.returns-clause-paged
 returns-clause-paged c = (returns-clause-loaded c).paged

@@ -4,7 +4,7 @@ use Rattle.std.specs.List.{range_with_len}
 use Rattle.std.proofs.lemmas.Grind.{flat_map-append}
 use Rattle.std.proofs.lemmas.List.{append-nil}
 use Rattle.std.proofs.lemmas.List.FromFn.{map-range_with_len_more}
-use Rattle.line_reader.specs.Written.{fed}
+use Rattle.text_lines.specs.Written.{fed}
 use Rattle.hex_image.specs.Written.{bytes_of_words, data_line, record_line}
 use Rattle.hex_image.proofs.written.text_of.Goals as goal
 

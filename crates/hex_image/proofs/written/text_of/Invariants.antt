@@ -1,7 +1,7 @@
 use Rattle.std.proofs.Common.{◌≡◌, map}
 use Rattle.std.specs.Prelude.{flat_map}
 use Rattle.std.specs.List.{range_with_len}
-use Rattle.line_reader.specs.Written.{fed}
+use Rattle.text_lines.specs.Written.{fed}
 use Rattle.hex_image.specs.Written.{data_line}
 use Rattle.hex_image.proofs.written.text_of.Given as goal
 

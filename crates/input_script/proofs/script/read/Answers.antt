@@ -1,5 +1,5 @@
 use Rattle.std.proofs.Common.{◌≡◌, Err, arith, ap, sym, refl, ◌∙◌, subst, inl, inr}
-use Rattle.line_reader.specs.Lines.{lines_of}
+use Rattle.text_lines.specs.Lines.{lines_of}
 use Rattle.std.proofs.lemmas.Grind.{common_steps}
 use Rattle.input_script.specs.declared.fault.ScriptError.TheVariants.{Bad, NoMemory}
 use Rattle.input_script.specs.Judging.{IsDone}

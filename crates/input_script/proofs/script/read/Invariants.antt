@@ -1,5 +1,5 @@
 use Rattle.std.proofs.Common.{◌+◌, ◌≤◌, length}
-use Rattle.line_reader.specs.Lines.{lines_of}
+use Rattle.text_lines.specs.Lines.{lines_of}
 use Rattle.input_script.specs.Judging.{IsDone}
 use Rattle.input_script.proofs.script.read.Given as goal
 

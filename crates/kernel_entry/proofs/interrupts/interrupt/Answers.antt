@@ -46,6 +46,8 @@ pub returns-in-Ok : goal.returns-in-Ok
 returns-in-Ok c =
     let k = c.args.k.now in
     let next = c.push.new.k in
-    let taken = taken_goes k next c.args.target c.enabled-enabled.result c.lowest-number.result c.vector-place.result c.without_interrupts-k.result c.take.new.self c.enabled-enabled.ensures.value c.if-enabled-eq0.false
-    (sym c.has_interrupts.ensures.value ∙ c.if-not-has_interrupts.false) c.lowest-number.ensures.value c.vector-place.ensures.value (ap (λ r. (r, next)) (sym c.in-Ok.is) ∙ c.push.ensures.pushed) c.without_interrupts-k.ensures.value c.take.ensures.taken in
+    let enabled = c.enabled-enabled in
+    let taken = taken_goes k next c.args.target enabled.result c.lowest-number.result c.vector-place.result c.without_interrupts-k.result c.take.new.self enabled.ensures.value c.if-enabled-eq0.false
+    (sym c.has_interrupts.ensures.value ∙ c.if-not-has_interrupts.false) c.lowest-number.ensures.value c.vector-place.ensures.value
+    (ap (λ r. (r, next)) (sym c.in-Ok.is) ∙ c.push.ensures.pushed) c.without_interrupts-k.ensures.value c.take.ensures.taken in
     record { taken = taken; row = taking_row k c.args.target _ _ taken c.requires.paged }

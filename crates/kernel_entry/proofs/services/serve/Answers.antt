@@ -1,49 +1,28 @@
 use Rattle.kernel_entry.specs.Left.{Leaves, LeavesHeap}
 use Rattle.kernel_entry.specs.Rows.{Bridges, EndsQuantum, Executes, PushesReturn, Returns, GoesThrough, LoopsOrHalts, Faults, AsTried}
 use Rattle.kernel_entry.specs.Services.{served}
+use Rattle.kernel_entry.specs.declared.kernel.Kernel.{Kernel}
+use Rattle.kernel_entry.specs.declared.kernel.Served.{Served}
 use Rattle.kernel_entry.proofs.ServedLaws.{along, served_leaves, served_leaves_heap, bridge_row, quantum_row, mem_row, push_row, return_row, indirect_row, self_entry_row, fault_row, served_tried}
 use Rattle.kernel_entry.proofs.services.serve.Goals as goal
 
-pub returns-clause-leaves : goal.returns-clause-leaves
-returns-clause-leaves c =
-    along (λ result new. Leaves c.args.k.now new) (c.serve_at.result.0, c.serve_at.new.k) (served c.args.k.now) c.serve_at.ensures.served (served_leaves c.args.k.now c.requires.can)
-
-pub returns-clause-heap : goal.returns-clause-heap
-returns-clause-heap c = λ apart.
-    along (λ result new. LeavesHeap c.args.k.now new) (c.serve_at.result.0, c.serve_at.new.k) (served c.args.k.now) c.serve_at.ensures.served (served_leaves_heap c.args.k.now c.requires.can apart)
-
-pub returns-clause-bridge : goal.returns-clause-bridge
-returns-clause-bridge c = λ here.
-    along (Bridges c.args.k.now) (c.serve_at.result.0, c.serve_at.new.k) (served c.args.k.now) c.serve_at.ensures.served (bridge_row c.args.k.now here)
-
-pub returns-clause-quantum : goal.returns-clause-quantum
-returns-clause-quantum c = λ here.
-    along (EndsQuantum c.args.k.now) (c.serve_at.result.0, c.serve_at.new.k) (served c.args.k.now) c.serve_at.ensures.served (quantum_row c.args.k.now c.descriptor-at.ensures.size here)
-
-pub returns-clause-memory : goal.returns-clause-memory
-returns-clause-memory c = λ here.
-    along (Executes c.args.k.now) (c.serve_at.result.0, c.serve_at.new.k) (served c.args.k.now) c.serve_at.ensures.served (mem_row c.args.k.now c.requires.can here)
-
-pub returns-clause-push_return : goal.returns-clause-push_return
-returns-clause-push_return c = λ here.
-    along (PushesReturn c.args.k.now) (c.serve_at.result.0, c.serve_at.new.k) (served c.args.k.now) c.serve_at.ensures.served (push_row c.args.k.now c.requires.can here)
-
-pub returns-clause-returns : goal.returns-clause-returns
-returns-clause-returns c = λ here.
-    along (Returns c.args.k.now) (c.serve_at.result.0, c.serve_at.new.k) (served c.args.k.now) c.serve_at.ensures.served (return_row c.args.k.now c.requires.can here)
-
-pub returns-clause-indirect : goal.returns-clause-indirect
-returns-clause-indirect c = λ here.
-    along (GoesThrough c.args.k.now) (c.serve_at.result.0, c.serve_at.new.k) (served c.args.k.now) c.serve_at.ensures.served (indirect_row c.args.k.now c.requires.can here)
-
-pub returns-clause-itself : goal.returns-clause-itself
-returns-clause-itself c = λ here.
-    along (LoopsOrHalts c.args.k.now) (c.serve_at.result.0, c.serve_at.new.k) (served c.args.k.now) c.serve_at.ensures.served (self_entry_row c.args.k.now c.requires.can here)
-
-pub returns-clause-fault : goal.returns-clause-fault
-returns-clause-fault c = λ here.
-    along (Faults c.args.k.now) (c.serve_at.result.0, c.serve_at.new.k) (served c.args.k.now) c.serve_at.ensures.served (fault_row c.args.k.now c.descriptor-at.ensures.size here)
-
-pub returns-clause-tried : goal.returns-clause-tried
-returns-clause-tried c = λ one two.
-    along (AsTried c.args.k.now) (c.serve_at.result.0, c.serve_at.new.k) (served c.args.k.now) c.serve_at.ensures.served (served_tried c.args.k.now c.descriptor-at.ensures.whole.words_fit c.requires.can one two)
+-- each clause from the function `served`
+pub returns : goal.returns
+returns c =
+    let k = c.args.k.now in
+    let can = c.requires.can in
+    let here = λ (P : Served → Kernel → Type 0) (fact : P (served k).0 (served k).1). along P (c.serve_at.result.0, c.serve_at.new.k) (served k) c.serve_at.ensures.served fact in
+    record {
+      served = c.serve_at.ensures.served;
+      leaves = here (λ result new. Leaves k new) (served_leaves k can);
+      heap = λ apart. here (λ result new. LeavesHeap k new) (served_leaves_heap k can apart);
+      bridge = λ at. here (Bridges k) (bridge_row k at);
+      quantum = λ at. here (EndsQuantum k) (quantum_row k c.descriptor-at.ensures.size at);
+      memory = λ at. here (Executes k) (mem_row k can at);
+      push_return = λ at. here (PushesReturn k) (push_row k can at);
+      returns = λ at. here (Returns k) (return_row k can at);
+      indirect = λ at. here (GoesThrough k) (indirect_row k can at);
+      itself = λ at. here (LoopsOrHalts k) (self_entry_row k can at);
+      fault = λ at. here (Faults k) (fault_row k c.descriptor-at.ensures.size at);
+      tried = λ one two. here (AsTried k) (served_tried k c.descriptor-at.ensures.whole.words_fit can one two);
+    }

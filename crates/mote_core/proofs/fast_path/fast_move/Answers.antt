@@ -1,4 +1,4 @@
-use Rattle.std.proofs.Common.{ℕ, refl, sym, ap, ap₂, ◌∙◌, arith, subst}
+use Rattle.std.proofs.Common.{ℕ, refl, sym, ap, ap₂, ◌∙◌, arith}
 use Rattle.std.specs.Prelude.{Option, Some, None, IfSome}
 use Rattle.avr_isa.specs.declared.form.Form.{Form}
 use Rattle.avr_exec.specs.declared.cpu.Cpu.{Cpu}
@@ -19,7 +19,8 @@ bounds-ops-place c = omega (arith, c.requires.low, c.requires.ops.1.sized)
 
 pub fast_step-requires-clause-in_sram : goal.fast_step-requires-clause-in_sram
 fast_step-requires-clause-in_sram c =
-    let stands : StandsAt c.requires.ops.0 c.args.place c.index-ops-place.result = subst (StandsAt c.requires.ops.0 c.args.place) (sym c.index-ops-place.is) (c.requires.ops.1.each c.args.place (omega (arith, c.requires.low)) c.index-ops-place.result) in
+    let stands : StandsAt c.requires.ops.0 c.args.place c.index-ops-place.result =
+    rw c.index-ops-place.is (c.requires.ops.1.each c.args.place (omega (arith, c.requires.low)) c.index-ops-place.result) in
     stands.in_sram
 
 if_both : {P Q : ℕ → Type 0} (told : Option ℕ) (F : Type 0) → (F → (n : ℕ) → P n → Q n) → IfSome told (λ _. F) → IfSome told P → IfSome told Q
@@ -32,7 +33,7 @@ returns-clause-step c =
     if_both c.fast_step.result _ (λ form next went m ops can.
     let before : Mote = mote_with m c.args.cpu.now c.args.sram.now c.args.sreg.now c.args.place in
     let words = m.flash.words in
-    let op : StandsAt words c.args.place c.index-ops-place.result = subst (StandsAt words c.args.place) (sym c.index-ops-place.is) (ops.each c.args.place (omega (arith, c.requires.low)) c.index-ops-place.result) in
+    let op : StandsAt words c.args.place c.index-ops-place.result = rw c.index-ops-place.is (ops.each c.args.place (omega (arith, c.requires.low)) c.index-ops-place.result) in
     let d : Decoded = decoded_at words c.args.place in
     let is = step_form (form_at before) d.instr before.cpu can refl in
     record {

@@ -1,6 +1,5 @@
-use Rattle.std.proofs.Common.{◌≡◌, ◌/◌, ℕ, arith, sym, ap, ◌∙◌, subst}
+use Rattle.std.proofs.Common.{◌≡◌, ◌/◌, arith, ap, ◌∙◌}
 use Rattle.flash_words.specs.Layouts.{image_of}
-use Rattle.page_index.specs.Entries.{AreKnown}
 use Rattle.page_draft.specs.Drafts.{starts}
 use Rattle.nat_page.proofs.GrowLaws.{begun_first, counts_of, drafting_more, stop_told, drafted}
 use Rattle.nat_page.proofs.drafting.draft_run.Goals as goal
@@ -23,7 +22,7 @@ pub next_in_run-requires-clause-known : goal.next_in_run-requires-clause-known
 next_in_run-requires-clause-known c =
     let drafting = c.run.invariant in
     let paged : c.run.here.pc / 128 ≡ c.args.t / 128 = ap (λ a. a / 128) drafting.reached ∙ drafting.begun.run.paged drafting.last (omega arith) in
-    subst (λ (original : ℕ). AreKnown c.args.layout.now c.args.flash.now.words original c.args.known.now) (sym paged) c.requires.known
+    rw paged c.requires.known
 
 pub next_in_run-requires-clause-words : goal.next_in_run-requires-clause-words
 next_in_run-requires-clause-words c =
@@ -33,8 +32,7 @@ next_in_run-requires-clause-words c =
 
 pub past_own_words-here-requires-clause-drafting : goal.past_own_words-here-requires-clause-drafting
 past_own_words-here-requires-clause-drafting c =
-    let words = c.args.flash.now.words in
-    drafting_more c.args.layout.now (image_of c.args.layout.now words) words c.args.t c.words_with.result c.run.draft c.add.new.self c.run.here c.in-Some.next c.run.invariant c.words_with.ensures.value c.in-Some.ensures.next c.add.ensures.adds
+    drafting_more _ _ _ _ _ _ _ _ _ c.run.invariant c.words_with.ensures.value c.in-Some.ensures.next c.add.ensures.adds
 
 pub words_with-requires : goal.words_with-requires
 words_with-requires c =
@@ -65,4 +63,7 @@ returns c =
     let words = c.args.flash.now.words in
     let image = image_of c.args.layout.now words in
     let stops = stop_told c.args.layout.now image words c.run.here.pc c.words_with.result c.next_in_run.result c.next_in_run.ensures.next c.in_default.not-Some in
-    record { drafted = drafted c.args.layout.now image words c.args.t c.words_with.result c.run.draft c.add-2.new.self c.close.new.self c.run.here c.run.invariant c.words_with.ensures.value stops c.add-2.ensures.adds c.close.ensures.entries c.close.ensures.code c.close.ensures.size }
+    record {
+      drafted = drafted c.args.layout.now image words c.args.t c.words_with.result c.run.draft c.add-2.new.self c.close.new.self c.run.here c.run.invariant c.words_with.ensures.value stops
+          c.add-2.ensures.adds c.close.ensures.entries c.close.ensures.code c.close.ensures.size;
+    }

@@ -10,13 +10,10 @@ offset_back pc here same = omega arith
 
 pub returns-then-known-here : goal.returns-then-known-here
 returns-then-known-here c =
-    let words = c.args.flash.now.words in
-    let layout = c.args.layout.now in
     let pc = c.args.here.now.next in
     let found = c.requires.known.found (pc % 128) (omega arith) (cc) in
-    let P : ℕ → Type 0 = λ a. IsEntry layout words a found.0 in
-    let Q : ℕ → Type 0 = λ a. IsEntry layout words a found.0 in
-    record { next = StopsBehind.Known found.0 (subst Q c.requires.read.next (subst P (offset_back pc c.args.here.now.pc (omega arith)) found.1)) }
+    let P : ℕ → Type 0 = λ a. IsEntry c.args.layout.now c.args.flash.now.words a found.0 in
+    record { next = StopsBehind.Known found.0 (subst P c.requires.read.next (subst P (offset_back pc c.args.here.now.pc (omega arith)) found.1)) }
 
 -- nothing stops the run
 pub returns : goal.returns
@@ -25,9 +22,7 @@ returns c =
     let layout = c.args.layout.now in
     let pc = c.args.here.now.next in
     let there : 128 * (c.args.here.now.pc / 128) + pc % 128 ≡ pc = offset_back pc c.args.here.now.pc (omega arith) in
-    let E : (a v : ℕ) → Type 0 = λ a v. IsEntry layout words a v in
-    let unknown : HasNoEntry layout words pc = λ v entry. (let known = c.requires.known.only (pc % 128) v (omega arith) (subst (λ (a : ℕ). E a v) (sym there) entry) in absurd (cc)) in
-    let P : ℕ → Type 0 = λ pc. HasNoEntry layout words pc in
+    let unknown : HasNoEntry layout words pc = λ v entry. (let known = c.requires.known.only (pc % 128) v (omega arith) (rw there entry) in absurd (cc)) in
     let here : c.args.here.now.next ≡ c.read-next.result.pc = sym c.read-next.ensures.pc in
     record {
       next = record {
@@ -36,7 +31,7 @@ returns c =
         returns = sym c.requires.read.ends ∙ c.if-here.false;
         paged = ap (λ pc. pc / 128) (sym here) ∙ c.if-here-2.false;
         inside = omega arith;
-        unknown = subst P here unknown;
+        unknown = rw here at unknown;
         fits = omega (arith, c.read-next.ensures.read.code_size, c.read-next.ensures.read.closing_size);
       };
     }

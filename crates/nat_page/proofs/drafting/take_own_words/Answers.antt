@@ -35,14 +35,12 @@ add_word-requires-clause-room c =
 
 pub run-preserved : goal.run-preserved
 run-preserved c =
-    let words = c.args.flash.now.words in
-    let image = image_of c.args.layout.now words in
     let draft = c.run.draft in
     let others = 4 + c.len.result + c.from.result in
     let told : others ≡ length draft.entries.items + draft.size + 1 + 3 = omega (arith, c.len.ensures, c.from.ensures) in
     record {
       on = omega (arith, c.run.invariant.on);
       own = c.in-Some.ensures.next.0;
-      drafting = drafting_more c.args.layout.now image words c.args.t others draft c.add_word.new.self (own_instruction image c.run.pc c.run.first) (own_instruction image (c.run.pc + 1) c.in-Some.next) c.run.invariant.drafting told
-          (c.in-Some.ensures.next.1 c.run.first c.run.invariant.own) (own_added image c.run.pc c.run.first draft c.add_word.new.self c.add_word.ensures.entries c.add_word.ensures.code c.add_word.ensures.size);
+      drafting = drafting_more _ _ _ _ _ _ _ _ _ c.run.invariant.drafting told
+          (c.in-Some.ensures.next.1 c.run.first c.run.invariant.own) (own_added _ _ _ _ _ c.add_word.ensures.entries c.add_word.ensures.code c.add_word.ensures.size);
     }

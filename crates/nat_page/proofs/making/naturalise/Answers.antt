@@ -4,9 +4,7 @@ use Rattle.flash_words.specs.Memory.{Memory}
 use Rattle.flash_words.specs.declared.failing.FlashStop.{FlashStop}
 use Rattle.nat_page.specs.declared.making.NatStop.TheVariants as stops
 use Rattle.flash_words.specs.Layouts.{image_of}
-use Rattle.page_index.specs.Entries.{IsEntry}
 use Rattle.nat_page.specs.Faithful.{IsFaithful}
-use Rattle.nat_page.specs.Links.{IsUnresolved}
 use Rattle.nat_page.specs.Making.{MakesPage}
 use Rattle.nat_page.proofs.MadeLaws.{makes_faithful, makes_image, makes_entry, makes_entries, makes_unresolved}
 use Rattle.nat_page.proofs.UsedLaws.{used_made}
@@ -37,7 +35,7 @@ returns-in-Ok c =
       image = makes_image layout image old new page t place right code pool makes;
       entered = makes_entry layout image old new page t place right code pool makes;
       entries = λ a v entry. makes_entries layout image old new page t place right code pool free makes a v entry;
-      stubs = λ s to stub. makes_unresolved layout image old new page t place s to right code pool free makes stub;
+      stubs = λ s to stub. makes_unresolved layout image old new page t place right code pool free makes s to stub;
       used = used_made layout image old new page t place right code pool free makes;
     }
 
@@ -55,6 +53,6 @@ returns-in-Err c =
       stop = ap stops.Flash (ap (λ (stop : FlashStop). stop.op) c.in-Err.ensures.stop);
       faithful = subst (IsFaithful layout image) (sym same) c.requires.code;
       image = ap (image_of layout) same;
-      entries = λ a v entry. subst (λ w. IsEntry layout w a v) (sym same) entry;
-      stubs = λ s to stub. subst (λ w. IsUnresolved layout image w s to) (sym same) stub;
+      entries = λ a v entry. rw same entry;
+      stubs = λ s to stub. rw same stub;
     }

@@ -13,7 +13,4 @@ returns c =
     let t = c.args.t in
     let draft = c.draft_page-draft.result in
     let prepared = prepared_of layout image words page t draft c.requires.free c.draft_page-draft.ensures.drafted in
-    record {
-      prepared = prepared;
-      only = λ words' place prepared'. one_page layout image words page t words' draft.words place (128 * page + draft.front) prepared' prepared;
-    }
+    record { prepared = prepared; only = λ words' place prepared'. one_page layout image words page t words' draft.words place (128 * page + draft.front) prepared' prepared }

@@ -1,14 +1,13 @@
-use Rattle.std.proofs.Common.{◌≡◌, ℕ, ◌+◌, ◌*◌, ◌/◌, ◌%◌, ◌<◌, Bool, take, arith, sym, subst, ◌∙◌}
+use Rattle.std.proofs.Common.{◌≡◌, ℕ, ◌+◌, ◌*◌, ◌/◌, ◌%◌, ◌<◌, Bool, take, arith, ◌∙◌}
 use Rattle.nat_template.specs.declared.piece.Piece.TheVariants.{Fixed, Link}
-use Rattle.nat_page.specs.declared.unlinking.Unlinked.{Unlinked}
-use Rattle.nat_page.specs.Unlinking.{links_where, IsPatched}
+use Rattle.nat_page.specs.Unlinking.{links_where}
 use Rattle.nat_page.proofs.PatchLaws.{IsNext, next_piece, patched_link, patched_next, patched_fixed}
 use Rattle.nat_page.proofs.unlinking.unlink.Goals as goal
 use Rattle.nat_page.proofs.unlinking.unlink.Goals.{in-Fixed, in-Link}
 
 pub overflow_add-at : goal.overflow_add-at
 overflow_add-at g c =
-    let next : IsNext c.args.pieces.now c.pieces.piece-index (Fixed c.in-Fixed.field-0) = next_piece c.args.pieces.now c.pieces.piece-index (Fixed c.in-Fixed.field-0) _ c.pieces-test.true c.in-Fixed.is in
+    let next : IsNext c.args.pieces.now c.pieces.piece-index (Fixed c.in-Fixed.field-0) = next_piece _ _ _ _ c.pieces-test.true c.in-Fixed.is in
     omega (arith, next.room, c.pieces.invariant.reached, c.requires.fits, c.requires.low)
 
 pub unlink_one-requires : goal.unlink_one-requires
@@ -34,7 +33,7 @@ pieces-preserved g c =
           let next : IsNext pieces i (Fixed w.in-Fixed.field-0) = next_piece pieces i (Fixed w.in-Fixed.field-0) _ c.pieces-test.true w.in-Fixed.is in
           record {
             reached = w.at-is ∙ omega (arith, next.longer, c.pieces.invariant.reached);
-            patched = subst (λ (p : Unlinked). IsPatched words page p (links_where words test from (take (i + 1) pieces))) (sym w.patch-is)
+            patched = rw w.patch-is
                 (patched_next words test page from c.pieces.at i pieces (Fixed w.in-Fixed.field-0) c.pieces.patch next c.pieces.invariant.reached
                 (patched_fixed words page c.pieces.patch (links_where words test from (take i pieces)) c.pieces.invariant.patched));
           })
@@ -45,8 +44,9 @@ pieces-preserved g c =
           let after = w.unlink_one.new.patch in
           record {
             reached = w.at-is ∙ omega (arith, next.longer, c.pieces.invariant.reached);
-            patched = subst (λ (p : Unlinked). IsPatched words page p (links_where words test from (take (i + 1) pieces))) (sym w.patch-is)
+            patched = rw w.patch-is
                 (patched_next words test page from c.pieces.at i pieces (Link w.in-Link.t) after next c.pieces.invariant.reached
-                (patched_link words test page c.pieces.at w.in-Link.t c.pieces.patch after (links_where words test from (take i pieces)) w.unlink_one.ensures.whole c.requires.low own room w.unlink_one.ensures.stays w.unlink_one.ensures.calls c.pieces.invariant.patched));
+                (patched_link words test page c.pieces.at w.in-Link.t c.pieces.patch after
+                (links_where words test from (take i pieces)) w.unlink_one.ensures.whole c.requires.low own room w.unlink_one.ensures.stays w.unlink_one.ensures.calls c.pieces.invariant.patched));
           })
     ]

@@ -1,10 +1,8 @@
-use Rattle.std.proofs.Common.{◌≡◌, ◌+◌, ◌-◌, ◌*◌, ◌/◌, ◌<◌, length, arith, sym, ap, ap₂, ◌∙◌}
+use Rattle.std.proofs.Common.{◌≡◌, ◌+◌, ◌*◌, ◌/◌, ◌<◌, length, arith, sym, ap, ap₂, ◌∙◌}
 use Rattle.flash_words.specs.Pages.{word_at}
 use Rattle.flash_words.specs.Layouts.{image_of}
-use Rattle.nat_template.specs.declared.piece.Piece.{Piece}
 use Rattle.page_index.specs.Maps.{address_of, original_page}
-use Rattle.page_draft.specs.CodePages.{page_pieces, Anywhere, IsPage}
-use Rattle.arrayvec.specs.ArrayVec.{ArrayVec}
+use Rattle.page_draft.specs.CodePages.{Anywhere}
 use Rattle.nat_page.proofs.WalkLaws.{own_run, own_page, is_found}
 use Rattle.nat_page.proofs.unlinking.without_links.Goals as goal
 
@@ -49,5 +47,5 @@ returns-in_default g c =
     let own = own_run Anywhere image words page c.requires.run.first c.requires.run.last c.requires.run.holds in
     let t : 128 * c.word.result + c.word-2.result / 256 ≡ address_of words page 0 = ap₂ (λ a b. 128 * a + b / 256) (c.word.ensures.value ∙ ap (word_at words) (omega arith)) c.word-2.ensures.value in
     let whole = own_page image words page (128 * c.word.result + c.word-2.result / 256) c.word-3.result own t c.word-3.ensures.value in
-    let found = is_found c.remade.result (IsPage image (128 * c.word.result + c.word-2.result / 256) (c.word-3.result - 1)) (λ (pieces : ArrayVec Piece). IsPage image (128 * c.word.result + c.word-2.result / 256) (c.word-3.result - 1) × (pieces.items ≡ page_pieces image (128 * c.word.result + c.word-2.result / 256) (c.word-3.result - 1))) whole c.remade.ensures.page c.in_default.not-Some in
+    let found = is_found _ _ _ whole c.remade.ensures.page c.in_default.not-Some in
     absurd found

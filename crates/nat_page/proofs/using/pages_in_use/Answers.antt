@@ -9,8 +9,26 @@ loop-i-init c = record { counted = none_used c.args.flash.now.words c.args.layou
 pub loop-i-preserved : goal.loop-i-preserved
 loop-i-preserved c =
     elim c.if-word.branch [
-      | then-word w ↦ record { counted = omega (arith, w.pages-is, c.loop-i.invariant.counted, one_more c.args.flash.now.words c.args.layout.now.pool_first c.loop-i.i c.word.result c.word.ensures.value w.if-word.true); few = omega (arith, w.pages-is, c.loop-i.invariant.few); whole = λ some. c.word.ensures.whole }
-      | else-word w ↦ record { counted = omega (arith, w.pages-is, c.loop-i.invariant.counted, no_more c.args.flash.now.words c.args.layout.now.pool_first c.loop-i.i c.word.result c.word.ensures.value w.if-word.false); few = omega (arith, w.pages-is, c.loop-i.invariant.few); whole = λ some. c.word.ensures.whole }
+      | then-word w ↦ record {
+        counted = omega (
+          arith,
+          w.pages-is,
+          c.loop-i.invariant.counted,
+          one_more c.args.flash.now.words c.args.layout.now.pool_first c.loop-i.i c.word.result c.word.ensures.value w.if-word.true,
+        );
+        few = omega (arith, w.pages-is, c.loop-i.invariant.few);
+        whole = λ some. c.word.ensures.whole;
+      }
+      | else-word w ↦ record {
+        counted = omega (
+          arith,
+          w.pages-is,
+          c.loop-i.invariant.counted,
+          no_more c.args.flash.now.words c.args.layout.now.pool_first c.loop-i.i c.word.result c.word.ensures.value w.if-word.false,
+        );
+        few = omega (arith, w.pages-is, c.loop-i.invariant.few);
+        whole = λ some. c.word.ensures.whole;
+      }
     ]
 
 pub returns-clause-whole : goal.returns-clause-whole

@@ -21,7 +21,12 @@ note-requires c =
     record { known = c.entries.invariant.known c.place_at-place.result inside }
 
 pub bounds-placed-from : goal.bounds-placed-from
-bounds-placed-from c = omega (arith, near_address c.args.flash.now.words c.args.page c.entries.i c.requires.below_kernel c.requires.map (omega (arith, c.entries-test.true, c.entries-i-end.ensures.value)), c.address_at-address.ensures.value)
+bounds-placed-from c = omega (
+  arith,
+  near_address c.args.flash.now.words c.args.page c.entries.i c.requires.below_kernel c.requires.map
+      (omega (arith, c.entries-test.true, c.entries-i-end.ensures.value)),
+  c.address_at-address.ensures.value,
+)
 
 pub entries-preserved : goal.entries-preserved
 entries-preserved c =
@@ -30,7 +35,7 @@ entries-preserved c =
     let i = c.entries.i in
     let at = c.entries.invariant in
     let listed : i < entry_count words page = omega (arith, c.entries-test.true, c.entries-i-end.ensures.value) in
-    let is = with_entry_is words c.entries.marks c.note.new.self page i c.place_at-place.result c.address_at-address.result c.note.ensures.marks c.place_at-place.ensures.value c.address_at-address.ensures.value in
+    let is = with_entry_is _ _ _ _ _ _ _ c.note.ensures.marks c.place_at-place.ensures.value c.address_at-address.ensures.value in
     let size : HasPlaces c.entries.marks = record { quiet = c.note.ensures.sizes.0; marks = c.note.ensures.sizes.1 } in
     record {
       known = known_next words c.entries.marks c.note.new.self page i c.requires.below_kernel c.requires.map listed size is at.known;

@@ -20,5 +20,5 @@ returns-then-page-entry-clause-only c = λ i t lists.
       address = refl;
       place = omega arith;
     } in
-    let address : address_of words page c.loop-i.i ≡ t = ap (λ k. address_of words page k) (same_place words page c.loop-i.i i _ t c.args.place map found lists) ∙ sym lists.address in
+    let address : address_of words page c.loop-i.i ≡ t = ap (address_of words page) (same_place words page c.loop-i.i i _ t c.args.place map found lists) ∙ sym lists.address in
     ap Some (omega arith)

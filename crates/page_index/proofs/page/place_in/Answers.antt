@@ -32,4 +32,4 @@ returns-then-entry-t-clause-only c = λ i v lists.
     let page = c.args.page in
     let found = returns-then-entry-t-clause-found c in
     let map = map_of_entry words page i c.args.t v c.requires.mapped lists in
-    ap Some (found.1.place ∙ ap (λ k. place_of words page k) (same_address words page found.0 i c.args.t _ v map found.1 lists) ∙ sym lists.place)
+    ap Some (found.1.place ∙ ap (place_of words page) (same_address words page found.0 i c.args.t _ v map found.1 lists) ∙ sym lists.place)

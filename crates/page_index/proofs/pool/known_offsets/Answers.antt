@@ -46,7 +46,6 @@ pages-preserved c =
 
 pub returns : goal.returns
 returns c =
-    let words = c.args.flash.now.words in
     let before = c.pages.invariant in
     record {
       known = record {
@@ -54,7 +53,7 @@ returns c =
         found = before.found;
         only = λ k v below entry. elim (cases_lt entry.page c.pages.from) [
           | inl earlier ↦ before.only entry.page entry.index k v below entry.pool earlier entry.lists
-          | inr later ↦ absurd (lists_no_other words entry.page entry.index c.args.original k v below (c.requires.mapped.pages entry.page entry.pool) (c.in_default.ensures.none entry.page later entry.pool.to) entry.lists)
+          | inr later ↦ absurd (lists_no_other _ _ _ _ _ _ below (c.requires.mapped.pages entry.page entry.pool) (c.in_default.ensures.none entry.page later entry.pool.to) entry.lists)
         ];
       };
     }

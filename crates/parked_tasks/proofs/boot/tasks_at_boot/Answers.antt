@@ -10,9 +10,14 @@ waiting-init c = record {
 
 pub waiting-preserved : goal.waiting-preserved
 waiting-preserved c = record {
-  so_far = next_stands c.waiting.tasks.items _ c.waiting.task c.waiting.scripts.items _ _ _ _ c.args.quantum c.args.swap (omega (arith, c.waiting.invariant.left, c.waiting-test.true)) c.remove.ensures.value c.remove.ensures.items c.in_ok-parked.ensures.parked c.at_start-in-waiting.ensures.value c.in_ok-add-2.ensures.added ∙ c.waiting.invariant.so_far;
+  so_far = next_stands c.waiting.tasks.items _ c.waiting.task c.waiting.scripts.items _ _ _ c.args.quantum c.args.swap
+      (omega (arith, c.waiting.invariant.left, c.waiting-test.true)) c.remove.ensures.value c.remove.ensures.items
+      c.in_ok-parked.ensures.parked c.at_start-in-waiting.ensures.value c.in_ok-add-2.ensures.added ∙ c.waiting.invariant.so_far;
   left = omega (arith, c.waiting.invariant.left, c.waiting-test.true, c.remove.ensures.len);
 }
 
 pub returns : goal.returns
-returns c = record { booted = all_stand c.waiting.tasks.items _ c.waiting.task c.waiting.scripts.items c.args.quantum c.args.swap (omega (arith, c.waiting.invariant.left, c.waiting-test.false)) c.waiting.invariant.so_far }
+returns c = record {
+  booted = all_stand c.waiting.tasks.items _ c.waiting.task c.waiting.scripts.items c.args.quantum c.args.swap
+      (omega (arith, c.waiting.invariant.left, c.waiting-test.false)) c.waiting.invariant.so_far;
+}

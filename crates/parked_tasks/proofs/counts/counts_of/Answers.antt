@@ -10,14 +10,30 @@ overflow_add-natural c =
     let tasks = c.args.tasks.now in
     let x = c.index-tasks-i.result in
     let here = get_at tasks c.tasks.i x (omega (arith, c.tasks-test.true)) c.index-tasks-i.is in
-    omega (arith, c.tasks.invariant.0, to_most (λ (task : Task). task.natural) c.tasks.i tasks (10 ^ 14) c.requires.natural, c.requires.natural c.tasks.i x here, c.tasks-test.true, c.requires.few, ap (λ (z : Task). z.natural) c.index-tasks-i.is)
+    omega (
+      arith,
+      c.tasks.invariant.0,
+      to_most (λ (task : Task). task.natural) c.tasks.i tasks (10 ^ 14) c.requires.natural,
+      c.requires.natural c.tasks.i x here,
+      c.tasks-test.true,
+      c.requires.few,
+      ap (λ (z : Task). z.natural) c.index-tasks-i.is,
+    )
 
 pub overflow_add-entries : goal.overflow_add-entries
 overflow_add-entries c =
     let tasks = c.args.tasks.now in
     let x = c.index-tasks-i-in-tasks.result in
     let here = get_at tasks c.tasks.i x (omega (arith, c.tasks-test.true)) c.index-tasks-i-in-tasks.is in
-    omega (arith, c.tasks.invariant.1, to_most (λ (task : Task). task.entries) c.tasks.i tasks (10 ^ 14) c.requires.entries, c.requires.entries c.tasks.i x here, c.tasks-test.true, c.requires.few, ap (λ (z : Task). z.entries) c.index-tasks-i-in-tasks.is)
+    omega (
+      arith,
+      c.tasks.invariant.1,
+      to_most (λ (task : Task). task.entries) c.tasks.i tasks (10 ^ 14) c.requires.entries,
+      c.requires.entries c.tasks.i x here,
+      c.tasks-test.true,
+      c.requires.few,
+      ap (λ (z : Task). z.entries) c.index-tasks-i-in-tasks.is,
+    )
 
 pub tasks-preserved : goal.tasks-preserved
 tasks-preserved c =

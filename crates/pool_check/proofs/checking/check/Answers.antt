@@ -1,13 +1,11 @@
-use Rattle.std.proofs.Common.{ℕ, List, arith, sym, subst}
-use Rattle.pool_check.specs.Forms.{HasForm}
+use Rattle.std.proofs.Common.{arith}
 use Rattle.pool_check.proofs.LinkTests.{is_so_not}
 use Rattle.pool_check.proofs.CheckedLaws.{checked_code, code_forms, code_links}
 use Rattle.pool_check.proofs.checking.check.Goals as goal
 
 pub returns-then-not-page_form-clause-faithful : goal.returns-then-not-page_form-clause-faithful
 returns-then-not-page_form-clause-faithful c = λ code.
-    let P : List ℕ → Type 0 = λ own. HasForm c.args.layout.now c.args.image.now c.loop-page.page own in
-    let form = subst P (sym c.page_words.ensures.words) (code_forms c.args.layout.now c.args.image.now c.args.flash.now.words c.loop-page.page c.requires.right code (omega arith)) in
+    let form = rw (← c.page_words.ensures.words) at (code_forms c.args.layout.now c.args.image.now c.args.flash.now.words c.loop-page.page c.requires.right code (omega arith)) in
     absurd (is_so_not (c.page_form.ensures.value.1 form) c.if-not-page_form.true)
 
 pub returns-in-Some-clause-faithful : goal.returns-in-Some-clause-faithful
@@ -17,6 +15,7 @@ returns-in-Some-clause-faithful c = λ code.
 
 pub returns-in-None-clause-verdict : goal.returns-in-None-clause-verdict
 returns-in-None-clause-verdict c = (
-  checked_code c.args.layout.now c.args.image.now c.args.flash.now.words c.requires.right c.pages_in_use.ensures.whole.words c.requires.length (record { forms = λ page low. c.loop-page.invariant page (omega (arith, c.loop-page-test.false)); links = c.in-None.ensures.first }),
+  checked_code _ _ _ c.requires.right c.pages_in_use.ensures.whole.words c.requires.length
+      (record { forms = λ page low. c.loop-page.invariant page (omega (arith, c.loop-page-test.false)); links = c.in-None.ensures.first }),
   c.pages_in_use.ensures.value,
 )

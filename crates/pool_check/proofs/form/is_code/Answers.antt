@@ -1,11 +1,8 @@
-use Rattle.std.proofs.Common.{◌∙◌, ℕ, ◌<◌, ◌≤◌, arith, refl, sym, subst, List}
-use Rattle.nat_template.specs.declared.piece.Piece.{Piece}
-use Rattle.page_draft.specs.Standing.{Stands}
-use Rattle.page_draft.specs.CodePages.{Anywhere}
-use Rattle.pool_check.specs.Forms.{first_told, last_told}
+use Rattle.std.proofs.Common.{◌∙◌, ℕ, ◌<◌, ◌≤◌, arith, refl, sym}
 use Rattle.pool_check.proofs.FormLaws.{told, page_told, stands_told, rest_told, is_code}
 use Rattle.pool_check.proofs.LinkTests.{is_so_not}
-use Rattle.pool_check.proofs.form.is_code.Goals.{then-words-ge-MOST_IMAGE_PAGES-via-then-words-ge-MOST_IMAGE_PAGES, then-words-ge-MOST_IMAGE_PAGES-via-else-words-ge-MOST_IMAGE_PAGES+then-count-lt1, then-words-ge-MOST_IMAGE_PAGES-via-else-words-ge-MOST_IMAGE_PAGES+else-count-lt1+then-count-ge-MOST_ENTRIES}
+use Rattle.pool_check.proofs.form.is_code.Goals.{then-words-ge-MOST_IMAGE_PAGES-via-then-words-ge-MOST_IMAGE_PAGES, then-words-ge-MOST_IMAGE_PAGES-via-else-words-ge-MOST_IMAGE_PAGES+then-count-lt1}
+use Rattle.pool_check.proofs.form.is_code.Goals.{then-words-ge-MOST_IMAGE_PAGES-via-else-words-ge-MOST_IMAGE_PAGES+else-count-lt1+then-count-ge-MOST_ENTRIES}
 use Rattle.pool_check.proofs.form.is_code.Goals as goal
 
 not_both : {n m : ℕ} → n < m → m ≤ n → ⊥
@@ -44,11 +41,10 @@ pub returns-else-not-stands : goal.returns-else-not-stands
 returns-else-not-stands c =
     let words = c.args.words.now in
     let is = c.deref-in-Some.ensures.0 ∙ c.in-Some.ensures.page.1 in
-    let P : List Piece → Type 0 = λ row. Stands Anywhere words 0 row in
-    let stands = subst P (c.deref.ensures.0 ∙ sym c.deref-in-Some.ensures.0) (c.stands.ensures.value.0 c.if-not-stands.false) in
+    let stands = rw (c.deref.ensures.0 ∙ sym c.deref-in-Some.ensures.0) at (c.stands.ensures.value.0 c.if-not-stands.false) in
     record {
       value = (
-        λ yes. is_code c.args.image.now words (first_told words) (last_told words) c.deref-in-Some.result.now c.in-Some.ensures.page.0 is stands (λ k behind below. c.are_blank_from.ensures.value.0 yes k (omega (arith, c.size.ensures.value)) below),
+        λ yes. is_code _ _ _ _ _ c.in-Some.ensures.page.0 is stands (λ k behind below. c.are_blank_from.ensures.value.0 yes k (omega (arith, c.size.ensures.value)) below),
         λ code. c.are_blank_from.ensures.value.1 (λ k behind below. rest_told c.args.image.now words c.deref-in-Some.result.now is code k (omega (arith, c.size.ensures.value)) below),
       );
     }

@@ -6,7 +6,7 @@ use Rattle.pool_check.proofs.links.has_links.Goals as goal
 
 pub returns-then-is_free : goal.returns-then-is_free
 returns-then-is_free c =
-    record { value = (λ is_so. free_links c.args.layout.now c.args.image.now c.args.flash.now.words c.args.page (omega (arith, c.requires.length, c.requires.right.image_fits)) (c.is_free.ensures.value.0 c.if-is_free.true), λ links. cc) }
+    record { value = (λ is_so. free_links _ _ _ _ (omega (arith, c.requires.length, c.requires.right.image_fits)) (c.is_free.ensures.value.0 c.if-is_free.true), λ links. cc) }
 
 pub returns : goal.returns
 returns c =

@@ -1,7 +1,6 @@
-use Rattle.std.proofs.Common.{ℕ, arith, sym, ◌∙◌, subst, inl, inr}
+use Rattle.std.proofs.Common.{◌≡◌, arith, sym, ◌∙◌, inl, inr}
 use Rattle.std.proofs.lemmas.Bool.{cases_lt}
 use Rattle.page_index.specs.Maps.{IsPool}
-use Rattle.page_index.specs.Entries.{Lists}
 use Rattle.pool_check.proofs.LinkTests.{some_same}
 use Rattle.pool_check.proofs.links.is_one_entry.Goals.{in-Some+else-other-place, in_default}
 use Rattle.pool_check.proofs.links.is_one_entry.Goals as goal
@@ -19,29 +18,24 @@ returns-then-other-place c =
 
 pub loop-page-preserved : goal.loop-page-preserved
 loop-page-preserved c =
-    let words = c.args.flash.now.words in
-    let t = c.args.t in
     let pool : IsPool c.args.layout.now c.loop-page.page = record { from = c.loop-page.auto.page; to = c.loop-page-test.true } in
     elim c.match-place_in.branch [
       | in-Some+else-other-place w ↦ (
           let found = w.in-Some.ensures.found in
-          let P : ℕ → Type 0 = λ v. Lists words c.loop-page.page found.0 t v in
           record {
-            here = λ yes'. record { page = c.loop-page.page; index = found.0; pool = pool; lists = subst P w.if-other-place.false found.1 };
+            here = λ yes'. record { page = c.loop-page.page; index = found.0; pool = pool; lists = rw w.if-other-place.false at found.1 };
             only = λ p i v pool' below lists. elim (cases_lt p c.loop-page.page) [
               | inl before ↦ ((c.loop-page.invariant.only p i v pool' before lists).0, w.found-is)
-              | inr same ↦ (
-                  let Q : ℕ → Type 0 = λ q. Lists words q i t v in
-                  (some_same v w.in-Some.other (sym (c.place_in.ensures.only i v (subst Q (omega arith) lists)) ∙ w.in-Some.is) ∙ w.if-other-place.false, w.found-is))
+              | inr same ↦
+                  let is : p ≡ c.loop-page.page = omega arith in
+                  (some_same v w.in-Some.other (sym (c.place_in.ensures.only i v (rw is at lists)) ∙ w.in-Some.is) ∙ w.if-other-place.false, w.found-is)
             ];
           })
       | in_default w ↦ record {
         here = λ yes'. c.loop-page.invariant.here (sym w.found-is ∙ yes');
         only = λ p i v pool' below lists. elim (cases_lt p c.loop-page.page) [
           | inl before ↦ (let old = c.loop-page.invariant.only p i v pool' before lists in (old.0, w.found-is ∙ old.1))
-          | inr same ↦ (
-              let Q : ℕ → Type 0 = λ q. Lists words q i t v in
-              absurd (w.in_default.not-Some v (c.place_in.ensures.only i v (subst Q (omega arith) lists))))
+          | inr same ↦ let is : p ≡ c.loop-page.page = omega arith in absurd (w.in_default.not-Some v (c.place_in.ensures.only i v (rw is at lists)))
         ];
       }
     ]

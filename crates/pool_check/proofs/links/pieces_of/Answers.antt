@@ -1,7 +1,6 @@
-use Rattle.std.proofs.Common.{◌≡◌, ℕ, arith, sym, ap, ◌∙◌, subst}
+use Rattle.std.proofs.Common.{◌≡◌, arith, sym, ap, ◌∙◌}
 use Rattle.flash_words.specs.Pages.{page_of, word_at}
 use Rattle.pool_check.specs.Forms.{first_told, last_told}
-use Rattle.page_draft.specs.CodePages.{IsPage}
 use Rattle.pool_check.proofs.FormLaws.{told, page_told}
 use Rattle.pool_check.proofs.links.pieces_of.Goals as goal
 
@@ -21,7 +20,6 @@ remade-requires-clause-few c =
 pub unreachable-requires : goal.unreachable-requires
 unreachable-requires c =
     let own = page_of c.args.flash.now.words c.args.page in
-    let P : ℕ → ℕ → Type 0 = λ t last. IsPage c.args.image.now t last in
     let first : first_told own ≡ c.first_of.result = sym (c.first_of.ensures.value ∙ ap first_told c.page_words-words.ensures.words) in
     let last : last_told own ≡ last_told c.page_words-words.result = sym (ap last_told c.page_words-words.ensures.words) in
-    c.in-None.ensures.page (subst (P c.first_of.result) last (subst (λ (t : ℕ). P t (last_told own)) first (page_told c.args.image.now own c.requires.code)))
+    c.in-None.ensures.page (rw last at (rw first at (page_told c.args.image.now own c.requires.code)))

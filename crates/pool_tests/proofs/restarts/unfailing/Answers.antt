@@ -10,7 +10,8 @@ returns-in-Ok-clause-around c =
     let layout = c.args.layout.now in
     let image = c.args.image.now in
     let faithful = new_flash_faithful layout image c.requires.right c.requires.long in
-    subst (λ (m : Memory). HaveFormsAround layout image m.words) (sym c.in-Ok.ensures.new) (forms_around layout image (loaded image) (code_checked layout image (loaded image) c.requires.right faithful).forms)
+    subst (λ (m : Memory). HaveFormsAround layout image m.words) (sym c.in-Ok.ensures.new)
+    (forms_around layout image (loaded image) (code_checked layout image (loaded image) c.requires.right faithful).forms)
 
 pub returns-in-Ok-clause-sound : goal.returns-in-Ok-clause-sound
 returns-in-Ok-clause-sound c = ap (λ (m : Memory). m.failing) c.in-Ok.ensures.new

@@ -15,7 +15,8 @@ faithful_on : (layout : Layout) (old new : List ℕ) (result : Result Moved Refu
 faithful_on layout old new (Ok moved) same faithful = subst (λ i. IsFaithful layout i new) (sym same) faithful
 faithful_on layout old new (Err refused) same faithful = tt
 
-image_on : (layout : Layout) (old new : List ℕ) (result : Result Moved Refused) → image_of layout (with_torn new (torn_in result)) ≡ image_of layout old → OnOk result (image_of layout new ≡ image_of layout old)
+image_on : (layout : Layout) (old new : List ℕ) (result : Result Moved Refused) → image_of layout (with_torn new (torn_in result)) ≡ image_of layout old
+    → OnOk result (image_of layout new ≡ image_of layout old)
 image_on layout old new (Ok moved) same = same
 image_on layout old new (Err refused) same = tt
 

@@ -16,10 +16,10 @@ arrive_known-requires c =
       going = ready.going;
       untorn = ready.untorn;
       untaken = may.untaken;
-      admitted = ap (admits m.kernel.part) (owed_at m c.args.owed ready may.owed) ∙ may.admitted;
+      admitted = ap (admits m.kernel.part) (owed_at c.args.owed ready may.owed) ∙ may.admitted;
       right = ready.order.right;
-      faithful = faithful_going m ready;
-      tables = tables_going m ready;
+      faithful = faithful_going ready;
+      tables = tables_going ready;
       ring = ready.order.ring;
       cursor = c.requires.cursor;
     }

@@ -18,10 +18,10 @@ arrive_known-made-requires c =
       going = ready.going;
       untorn = ready.untorn;
       untaken = undue_none m c.if-p.false;
-      admitted = ap (admits m.kernel.part) (owed_at m c.in-Some.owed ready c.in-Some.is) ∙ sym c.may_enter.ensures.value ∙ c.if-not-may_enter.false;
+      admitted = ap (admits m.kernel.part) (owed_at c.in-Some.owed ready c.in-Some.is) ∙ sym c.may_enter.ensures.value ∙ c.if-not-may_enter.false;
       right = ready.order.right;
-      faithful = faithful_going m ready;
-      tables = tables_going m ready;
+      faithful = faithful_going ready;
+      tables = tables_going ready;
       ring = ready.order.ring;
       cursor = c.requires.cursor;
     }
@@ -37,6 +37,6 @@ returns-clause-followed c = λ made.
     record {
       ready = ready;
       undue = c.if-p.false;
-      entered = subst (HasEntered m z) end (entered_some m z (told.arrived made) c.keeps_whole.ensures.whole ready);
+      entered = subst (HasEntered m z) end (entered_some (told.arrived made) c.keeps_whole.ensures.whole ready);
       still = ap (λ (p : Progress). p.due) after ∙ c.if-p.false;
     }

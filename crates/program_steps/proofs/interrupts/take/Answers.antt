@@ -23,10 +23,12 @@ returns-in-Nothing c = absurd (none_taken (whole c.args.k.now c.args.p.now) c.in
 
 pub returns-in-Vector : goal.returns-in-Vector
 returns-in-Vector c =
-    let stepped = taken_vector (whole c.args.k.now c.args.p.now) c.in-Some.owed c.in-Vector.target c.interrupt.new.k c.requires.ready c.in-Some.is c.requires.steps c.requires.wanted (ap (λ r. (r, c.interrupt.new.k)) (sym c.in-Vector.is) ∙ c.interrupt.ensures.taken) in
+    let stepped = taken_vector c.in-Some.owed c.in-Vector.target c.interrupt.new.k c.requires.ready c.in-Some.is c.requires.steps c.requires.wanted
+    (ap (λ r. (r, c.interrupt.new.k)) (sym c.in-Vector.is) ∙ c.interrupt.ensures.taken) in
     record { stepped = stepped; end = sym c.requires.ready.going; flash = stepped.flash; layout = stepped.stays.layout }
 
 pub returns-in-Stopped : goal.returns-in-Stopped
 returns-in-Stopped c =
-    let stepped = taken_stopped (whole c.args.k.now c.args.p.now) c.in-Some.owed c.in-Stopped.stop c.interrupt.new.k c.requires.ready c.in-Some.is c.requires.steps c.requires.wanted (ap (λ r. (r, c.interrupt.new.k)) (sym c.in-Stopped.is) ∙ c.interrupt.ensures.taken) in
+    let stepped = taken_stopped c.in-Some.owed c.in-Stopped.stop c.interrupt.new.k c.requires.ready c.in-Some.is c.requires.steps c.requires.wanted
+    (ap (λ r. (r, c.interrupt.new.k)) (sym c.in-Stopped.is) ∙ c.interrupt.ensures.taken) in
     record { stepped = stepped; end = refl; flash = stepped.flash; layout = stepped.stays.layout }

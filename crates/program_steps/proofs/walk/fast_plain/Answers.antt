@@ -10,7 +10,7 @@ use Rattle.kernel_entry.specs.declared.kernel.Kernel.{Kernel}
 use Rattle.program_steps.specs.declared.progress.Progress.{Progress}
 use Rattle.program_steps.specs.Walking.{kernel_with, progress_at}
 use Rattle.program_steps.specs.Loop.{HasPlain}
-use Rattle.program_steps.specs.Machines.{state_of, numbers_of}
+use Rattle.program_steps.specs.Machines.{numbers_of}
 use Rattle.program_steps.specs.Wholes.{whole}
 use Rattle.program_steps.proofs.Told.{plain_state, plain_numbers}
 use Rattle.program_steps.proofs.walk.fast_plain.Goals as goal
@@ -19,12 +19,12 @@ if_map : {P Q : ℕ → Type 0} (told : Option ℕ) → ((n : ℕ) → P n → Q
 if_map None f is = tt
 if_map (Some n) f is = f n is
 
-plain_by_step : (k : Kernel) (next : Mote) (p : Progress) → (can_step (form_at k.mote) k.mote.cpu ≡ true → IsPlainStep k.mote Went next)
+plain_by_step : (k : Kernel) {next : Mote} (p : Progress) → (can_step (form_at k.mote) k.mote.cpu ≡ true → IsPlainStep k.mote Went next)
     → HasPlain (whole k p) (whole (record k { mote = next }) (progress_at p (p.since + 1) p.steps)) p.line p.line
-plain_by_step k next p step = λ begins line y makes.
+plain_by_step k {next} p step = λ begins line y makes.
     let m = whole k p in
     let made = step makes.can in
-    let both = plain_state (state_of m) y next Went begins line made makes in
+    let both = plain_state next Went made makes in
     record {
       state = both.0;
       numbers = plain_numbers (numbers_of m) line p.before p.longest _ refl refl (ap (λ (f : Memory). f.ops) made.flash);
@@ -34,4 +34,4 @@ plain_by_step k next p step = λ begins line y makes.
 
 pub returns-clause-stepped : goal.returns-clause-stepped
 returns-clause-stepped c =
-    if_map c.fast_move.result (λ next step k p are. plain_by_step (kernel_with k c.args.cpu.now c.args.sram.now c.args.sreg.now c.args.place) _ p (step k.mote are)) c.fast_move.ensures.step
+    if_map c.fast_move.result (λ next step k p are. plain_by_step (kernel_with k c.args.cpu.now c.args.sram.now c.args.sreg.now c.args.place) p (step k.mote are)) c.fast_move.ensures.step

@@ -7,5 +7,4 @@ use Rattle.program_steps.proofs.walk.look.Goals as goal
 pub returns-clause-none : goal.returns-clause-none
 returns-clause-none c =
     let k = c.args.k.now in
-    subst (λ a. IfNone c.origin.result ((t : ℕ) → ¬ IsEntry k.layout k.mote.flash.words t a)) c.requires.at
-    (none_there k.layout k.mote.flash.words c.args.pc c.origin.result c.origin.ensures.only)
+    subst (λ a. IfNone c.origin.result ((t : ℕ) → ¬ IsEntry k.layout k.mote.flash.words t a)) c.requires.at (none_there c.origin.result c.origin.ensures.only)

@@ -1,6 +1,6 @@
 use Rattle.std.proofs.Common.{◌≡◌, ◌≤◌, ◌+◌, length}
-use Rattle.line_reader.specs.Lines.{lines_of}
-use Rattle.line_reader.specs.Faults.{first_fault}
+use Rattle.text_lines.specs.Lines.{lines_of}
+use Rattle.text_lines.specs.Faults.{first_fault}
 use Rattle.task_input.specs.Reading.{first_formless, form_fault}
 use Rattle.task_input.proofs.lines.first_formless.Given as goal
 

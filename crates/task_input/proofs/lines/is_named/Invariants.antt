@@ -1,6 +1,6 @@
 use Rattle.std.proofs.Common.{◌<◌, ℕ, List, ◌++◌}
 use Rattle.std.specs.Prelude.{◌≢◌}
-use Rattle.line_writer.specs.Pieces.{task_text}
+use Rattle.text_lines.specs.Pieces.{task_text}
 use Rattle.task_input.specs.Scripts.{at_word}
 use Rattle.task_input.proofs.lines.is_named.Given as goal
 

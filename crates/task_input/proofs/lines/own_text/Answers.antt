@@ -1,7 +1,7 @@
-use Rattle.line_reader.proofs.TextLaws.{no_lines}
+use Rattle.text_lines.proofs.TextLaws.{no_lines}
 use Rattle.std.proofs.Common.{◌≡◌, ◌∙◌, ◌++◌, ℕ, List, length, arith, ap, subst}
 use Rattle.std.proofs.lemmas.List.{length-append}
-use Rattle.line_reader.specs.Lines.{lines_of}
+use Rattle.text_lines.specs.Lines.{lines_of}
 use Rattle.task_input.specs.Scripts.{own_line}
 use Rattle.task_input.specs.Reading.{ended}
 use Rattle.task_input.proofs.OwnTexts.{IsWritten, written_more, written_all, own_within}

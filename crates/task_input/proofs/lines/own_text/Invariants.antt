@@ -1,5 +1,5 @@
 use Rattle.std.proofs.Common.{◌≤◌, ◌+◌, length}
-use Rattle.line_reader.specs.Lines.{lines_of}
+use Rattle.text_lines.specs.Lines.{lines_of}
 use Rattle.task_input.proofs.OwnTexts.{IsWritten}
 use Rattle.task_input.proofs.lines.own_text.Given as goal
 

@@ -19,5 +19,6 @@ returns g c =
     record { told = inl (ap Some (c.new-same.ensures.left ∙ c.in_ok-second.ensures.same)); read = not_risen 0 0 refl refl } in
     record {
       again = λ serves. with_room g.row.MORE _ _ c.keeps_room.ensures.room
-          (answered_twice _ (record { by = record { exit = _; status = _; faults = _; taken = _; call = one }; none = serves }) (record { exit = _; status = _; faults = _; taken = _; call = other }) c.args.text.now tells again);
+          (answered_twice _ (record { by = record { exit = _; status = _; faults = _; taken = _; call = one }; none = serves })
+          (record { exit = _; status = _; faults = _; taken = _; call = other }) c.args.text.now tells again);
     }

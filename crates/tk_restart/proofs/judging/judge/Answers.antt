@@ -1,7 +1,5 @@
-use Rattle.std.proofs.Common.{◌≡◌, ℕ, ◌≤◌, Bool, true, false, List, length, arith, ◌∙◌, sym, subst, inl, inr}
+use Rattle.std.proofs.Common.{◌≡◌, ◌≤◌, Bool, true, false, length, arith, ◌∙◌, inl, inr}
 use Rattle.std.proofs.lemmas.Bool.{cases_lt}
-use Rattle.page_index.specs.Maps.{IsMap}
-use Rattle.page_draft.specs.CodePages.{IsCodePage}
 use Rattle.tk_restart.proofs.PageLaws.{code_alone, code_in_flash, code_map}
 use Rattle.tk_restart.proofs.judging.judge.Goals as goal
 use Rattle.flash_words.specs.Layouts.{most_image_words}
@@ -11,11 +9,10 @@ is_so_not is_so not_so = cc
 
 pub returns-then-not-is_code : goal.returns-then-not-is_code
 returns-then-not-is_code c =
-    let P : List ℕ → Type 0 = λ p. IsCodePage c.args.image.now p 0 in
     record {
       judged = (
         λ free. is_so_not (c.is_blank.ensures.value.1 (c.page_words-words.ensures.words ∙ free)) c.if-is_blank.false,
-        λ both. is_so_not (c.is_code.ensures.value.1 (subst P (sym c.page_words-words.ensures.words) (code_alone c.args.image.now c.args.flash.now.words c.args.page both.0))) c.if-not-is_code.true,
+        λ both. is_so_not (c.is_code.ensures.value.1 (rw c.page_words-words.ensures.words (code_alone c.args.image.now c.args.flash.now.words c.args.page both.0))) c.if-not-is_code.true,
       );
       whole = c.page_words-words.ensures.whole;
     }
@@ -25,12 +22,10 @@ is_alone-requires-clause-pages c = λ page pool to.
     let words = c.args.flash.now.words in
     let image = c.args.image.now in
     let short : length image ≤ most_image_words = omega (arith, c.requires.length, c.requires.right.image_fits) in
-    let P : List ℕ → Type 0 = λ p. IsCodePage image p 0 in
-    let Q : ℕ → Type 0 = λ p. IsMap words p in
-    let code = code_in_flash image words c.args.page (subst P c.page_words-words.ensures.words (c.is_code.ensures.value.0 c.if-not-is_code.false)) in
+    let code = code_in_flash image words c.args.page (rw c.page_words-words.ensures.words at (c.is_code.ensures.value.0 c.if-not-is_code.false)) in
     elim (cases_lt page c.args.page) [
       | inl before ↦ c.requires.pages page pool before
-      | inr same ↦ (let own : c.args.page ≡ page = omega arith in inr (subst Q own (code_map image words c.args.page short code)))
+      | inr same ↦ (let own : c.args.page ≡ page = omega arith in inr (rw own at (code_map image words c.args.page short code)))
     ]
 
 pub returns-then-not-is_alone : goal.returns-then-not-is_alone
@@ -44,10 +39,9 @@ returns-then-not-is_alone c = record {
 
 pub returns : goal.returns
 returns c =
-    let P : List ℕ → Type 0 = λ p. IsCodePage c.args.image.now p 0 in
     record {
       judged = (
-        code_in_flash c.args.image.now c.args.flash.now.words c.args.page (subst P c.page_words-words.ensures.words (c.is_code.ensures.value.0 c.if-not-is_code.false)),
+        code_in_flash c.args.image.now c.args.flash.now.words c.args.page (rw c.page_words-words.ensures.words at (c.is_code.ensures.value.0 c.if-not-is_code.false)),
         c.is_alone.ensures.value.0 c.if-not-is_alone.false,
       );
       whole = c.page_words-words.ensures.whole;

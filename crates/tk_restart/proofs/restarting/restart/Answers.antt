@@ -1,6 +1,5 @@
-use Rattle.std.proofs.Common.{ℕ, ◌≤◌, List, length, arith, sym, ap, ◌∙◌, subst}
+use Rattle.std.proofs.Common.{◌≤◌, length, arith, ap, ◌∙◌}
 use Rattle.tk_restart.specs.Restarting.{Restarts}
-use Rattle.tk_restart.specs.Unlinking.{AreCodes, Unlinks}
 use Rattle.tk_restart.proofs.KeepingLaws.{kept_faithful, one_answer}
 use Rattle.tk_restart.proofs.RestartLaws.{mid_image, restarted, swept_codes, used_after}
 use Rattle.tk_restart.proofs.restarting.restart.Goals as goal
@@ -8,15 +7,13 @@ use Rattle.flash_words.specs.Layouts.{most_image_words}
 
 pub unlink-requires-clause-image : goal.unlink-requires-clause-image
 unlink-requires-clause-image c =
-    let mid = mid_image c.args.layout.now c.args.image.now c.args.flash.now c.sweep-told.new.flash c.sweep-told.result c.requires.right c.sweep-told.ensures.whole c.requires.length c.requires.around c.sweep-told.ensures.sweeps in
+    let mid = mid_image _ _ _ _ _ c.requires.right c.sweep-told.ensures.whole c.requires.length c.requires.around c.sweep-told.ensures.sweeps in
     ap length mid ∙ c.requires.length
 
 pub unlink-requires-clause-codes : goal.unlink-requires-clause-codes
 unlink-requires-clause-codes c =
-    let layout = c.args.layout.now in
-    let mid = mid_image layout c.args.image.now c.args.flash.now c.sweep-told.new.flash c.sweep-told.result c.requires.right c.sweep-told.ensures.whole c.requires.length c.requires.around c.sweep-told.ensures.sweeps in
-    let P : List ℕ → Type 0 = λ held. AreCodes layout held c.sweep-told.new.flash.words in
-    subst P (sym mid) (swept_codes layout c.args.image.now c.args.flash.now c.sweep-told.new.flash c.sweep-told.result c.sweep-told.ensures.sweeps)
+    let mid = mid_image _ _ _ _ _ c.requires.right c.sweep-told.ensures.whole c.requires.length c.requires.around c.sweep-told.ensures.sweeps in
+    rw mid (swept_codes c.args.layout.now c.args.image.now c.args.flash.now c.sweep-told.new.flash c.sweep-told.result c.sweep-told.ensures.sweeps)
 
 pub returns : goal.returns
 returns c =
@@ -29,8 +26,7 @@ returns c =
     let whole = c.sweep-told.ensures.whole in
     let short : length image ≤ most_image_words = omega (arith, c.requires.length, c.requires.right.image_fits) in
     let mid = mid_image layout image old between told c.requires.right whole c.requires.length c.requires.around c.sweep-told.ensures.sweeps in
-    let P : List ℕ → Type 0 = λ held. Unlinks layout held between new in
-    let is : Restarts layout image old new told = restarted layout image old between new told c.requires.right whole short c.sweep-told.ensures.sweeps (subst P mid c.unlink.ensures.unlinks) in
+    let is : Restarts layout image old new told = restarted layout image old between new told c.requires.right whole short c.sweep-told.ensures.sweeps (rw mid at c.unlink.ensures.unlinks) in
     record {
       restarts = is;
       only = λ other told' restarts. one_answer layout image old new other told told' is restarts;

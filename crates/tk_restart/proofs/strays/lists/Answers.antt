@@ -14,7 +14,8 @@ returns-then-is_entry c =
     let v = c.args.place in
     let original : original_page words (v / 128) ≡ c.word.result = ap (word_at words) (omega arith) ∙ sym c.word.ensures.value in
     record {
-      value = listed_by words c.args.t v (omega (arith, original, c.if-word-ge-MOST_IMAGE_PAGES.false)) (item_among words c.args.t v most_entries c.entries.i (omega (arith, c.entries-test.true)) (sym c.is_entry.ensures.value ∙ c.if-is_entry.true));
+      value = listed_by words c.args.t v (omega (arith, original, c.if-word-ge-MOST_IMAGE_PAGES.false))
+          (item_among words c.args.t v most_entries c.entries.i (omega (arith, c.entries-test.true)) (sym c.is_entry.ensures.value ∙ c.if-is_entry.true));
     }
 
 pub entries-preserved : goal.entries-preserved

@@ -1,17 +1,13 @@
-use Rattle.std.proofs.Common.{◌≡◌, ℕ, ◌+◌, arith, sym, ◌∙◌, subst}
+use Rattle.std.proofs.Common.{◌≡◌, ◌+◌, arith, sym, ◌∙◌}
 use Rattle.page_index.specs.Maps.{IsPool}
 use Rattle.nat_page.specs.Used.{is_used}
 use Rattle.tk_restart.specs.Keeping.{is_dropped}
-use Rattle.tk_restart.specs.Sweeping.{IsSwept}
 use Rattle.tk_restart.proofs.SweepLaws.{swept_all, swept_fate, swept_none, swept_pages}
 use Rattle.tk_restart.proofs.CountLaws.{count_most}
 use Rattle.tk_restart.proofs.sweeping.sweep.Goals as goal
 
 pub pages-init : goal.pages-init
-pages-init c = record {
-  swept = swept_none c.args.layout.now c.args.image.now c.args.flash.now;
-  whole = λ begun. absurd (omega (arith, begun));
-}
+pages-init c = record { swept = swept_none c.args.layout.now c.args.image.now c.args.flash.now; whole = λ begun. absurd (omega (arith, begun)) }
 
 pub sweep_page-fate-requires-clause-pages : goal.sweep_page-fate-requires-clause-pages
 sweep_page-fate-requires-clause-pages c =
@@ -39,16 +35,16 @@ pages-preserved c =
     let whole = c.sweep_page-fate.ensures.whole in
     record {
       swept = swept_fate layout c.args.image.now c.args.flash.now c.pages.flash c.sweep_page-fate.new.flash c.pages.k c.pages.told c.with-told.result c.sweep_page-fate.result
-          (omega (arith, c.requires.length, c.requires.right.image_fits)) c.requires.right whole pool c.pages.invariant.swept c.sweep_page-fate.ensures.judged c.sweep_page-fate.ensures.after c.with-told.ensures.value;
+          (omega (arith, c.requires.length, c.requires.right.image_fits)) c.requires.right whole pool
+          c.pages.invariant.swept c.sweep_page-fate.ensures.judged c.sweep_page-fate.ensures.after c.with-told.ensures.value;
       whole = λ begun. sym c.pages.invariant.swept.size ∙ whole.words;
     }
 
 pub returns : goal.returns
 returns c =
     let layout = c.args.layout.now in
-    let P : ℕ → Type 0 = λ k. IsSwept layout c.args.image.now c.args.flash.now c.pages.flash k c.pages.told in
     let at_end : c.pages.k ≡ layout.pool_pages = omega (arith, c.pages.auto.k-end, c.pages-test.false) in
     record {
-      sweeps = swept_all layout c.args.image.now c.args.flash.now c.pages.flash c.pages.told (omega (arith, c.requires.length, c.requires.right.image_fits)) (subst P at_end c.pages.invariant.swept);
+      sweeps = swept_all layout c.args.image.now c.args.flash.now c.pages.flash c.pages.told (omega (arith, c.requires.length, c.requires.right.image_fits)) (rw at_end at c.pages.invariant.swept);
       whole = c.pages.invariant.whole (omega (arith, at_end, c.requires.right.pool_pages));
     }

@@ -1,8 +1,6 @@
-use Rattle.std.proofs.Common.{ℕ, ◌+◌, ◌≤◌, List, length, arith, sym, ap, ◌∙◌, subst}
+use Rattle.std.proofs.Common.{ℕ, ◌+◌, ◌≤◌, length, arith, ap, ◌∙◌, subst}
 use Rattle.flash_words.specs.Layouts.{image_of, most_image_words}
-use Rattle.page_index.specs.Maps.{IsPool, IsFree}
-use Rattle.page_draft.specs.CodePages.{IsCodePage}
-use Rattle.std.specs.Prelude.{◌⊎◌}
+use Rattle.page_index.specs.Maps.{IsPool}
 use Rattle.tk_restart.specs.Unlinking.{IsUnlinked, has_strays, unlinked_page}
 use Rattle.tk_restart.proofs.CountLaws.{count_most}
 use Rattle.tk_restart.proofs.PageLaws.{image_there}
@@ -15,14 +13,10 @@ pages-init c = unlinked_none c.args.layout.now (image_of c.args.layout.now c.arg
 pub unlink_page-requires-clause-code : goal.unlink_page-requires-clause-code
 unlink_page-requires-clause-code c =
     let layout = c.args.layout.now in
-    let old = c.args.flash.now in
-    let now = c.pages.flash in
     let page = layout.pool_first + c.pages.k in
     let pool : IsPool layout page = record { from = omega arith; to = omega (arith, c.pages-test.true) } in
-    let image = image_of layout old.words in
-    let same = image_there layout old.words now.words c.requires.right c.requires.whole c.pages.invariant.size c.pages.invariant.outside in
-    let P : List ℕ → Type 0 = λ held. IsFree now.words page ⊎ IsCodePage held now.words page in
-    subst P (sym same) (behind_all layout image old now c.pages.k page (omega (arith, c.requires.image, c.requires.right.image_fits)) c.requires.right c.requires.whole c.requires.codes c.pages.invariant pool).kind
+    let same = image_there layout c.args.flash.now.words c.pages.flash.words c.requires.right c.requires.whole c.pages.invariant.size c.pages.invariant.outside in
+    rw same (behind_all _ _ _ _ _ _ (omega (arith, c.requires.image, c.requires.right.image_fits)) c.requires.right c.requires.whole c.requires.codes c.pages.invariant pool).kind
 
 pub unlink_page-requires-clause-room : goal.unlink_page-requires-clause-room
 unlink_page-requires-clause-room c =

@@ -1,5 +1,5 @@
 use Rattle.std.proofs.Common.{arith, ap, ◌∙◌, inl, inr}
-use Rattle.flash_words.specs.Pages.{page_of, blank, word_at}
+use Rattle.flash_words.specs.Pages.{page_of, word_at}
 use Rattle.flash_words.proofs.PageLaws.{page_same}
 use Rattle.page_index.proofs.MapLaws.{free_word}
 use Rattle.tk_restart.proofs.SweepLaws.{blank_long}
@@ -15,5 +15,4 @@ without_links-without-requires-clause-run c = elim c.requires.code [
 
 pub program-requires-clause-erased : goal.program-requires-clause-erased
 program-requires-clause-erased c =
-    let words = c.args.flash.now.words in
-    ap (λ m. page_of m.words c.args.page) c.erase.ensures.after ∙ page_same words blank c.args.page blank_long (omega (arith, c.word.ensures.whole.words, c.requires.page.to, c.requires.right.pool_below_kernel))
+    ap (λ m. page_of m.words c.args.page) c.erase.ensures.after ∙ page_same _ _ _ blank_long (omega (arith, c.word.ensures.whole.words, c.requires.page.to, c.requires.right.pool_below_kernel))

@@ -23,6 +23,5 @@ returns-in_err-send g c =
 pub returns : goal.returns
 returns g c = record {
   made = made_put g.K.Sink.taken g.K.Sink.faults (whole c.args.k.now c.args.p.now) (whole c.all_steps.new.k c.all_steps.new.p) c.args.n c.all_steps.new.gathered.items c.args.out.now
-      c.all_steps.new.out c.send.new.out
-      c.in_ok-end.end c.in_ok-end.ensures.made c.in_ok-send.ensures.text c.send.ensures.cause.later;
+      c.all_steps.new.out c.send.new.out c.in_ok-end.end c.in_ok-end.ensures.made c.in_ok-send.ensures.text c.send.ensures.cause.later;
 }

@@ -22,19 +22,18 @@ plays-init g c = record {
 pub returns-in_err-send_in_turn-clause-put : goal.returns-in_err-send_in_turn-clause-put
 returns-in_err-send_in_turn-clause-put g c =
     let failed = err_from_is_err_and c.from_residual.result c.from_residual.ensures.1 in
-    rw failed.1 (way_cut_in_turn c.args.n c.args.t.now c.plays.t c.plays.gathered.items (g.K.Sink.taken c.args.out.now) (g.K.Sink.taken c.plays.out) (g.K.Sink.taken c.send_in_turn.new.out)
-    c.plays.invariant.way c.in_err-send_in_turn.ensures.text)
+    rw failed.1 (way_cut_in_turn c.plays.invariant.way c.in_err-send_in_turn.ensures.text)
 
 pub play-shown-requires-clause-room : goal.play-shown-requires-clause-room
-play-shown-requires-clause-room g c = room_of c.args.n c.args.t.now c.plays.t c.plays.gathered.items _ _ c.plays.invariant.way c.requires.sound c.requires.unstarted.unchanged c.requires.steps
+play-shown-requires-clause-room g c = room_of c.plays.invariant.way c.requires.sound c.requires.unstarted.unchanged c.requires.steps
 
 pub put_shown-requires-clause-quantum : goal.put_shown-requires-clause-quantum
 put_shown-requires-clause-quantum g c =
-    let some = quantum_some c.plays.t c.plays.invariant.sound c.plays.invariant.whole (λ task here. (c.goes_on.ensures.going task here).0 c.plays-test.true) in
+    let some = quantum_some c.plays.invariant.sound c.plays.invariant.whole (λ task here. (c.goes_on.ensures.going task here).0 c.plays-test.true) in
     omega (arith, some, c.play-shown.ensures.quantum, ap (λ (u : Tasks). u.kernel.quantum) c.t.view_is)
 
 pub plays-smaller : goal.plays-smaller
-plays-smaller g c = still_less c.args.n c.plays.t c.play-shown.new.self _ _ c.play-shown.ensures.played
+plays-smaller g c = still_less c.play-shown.ensures.played
 
 pub plays-preserved : goal.plays-preserved
 plays-preserved g c =
@@ -66,19 +65,16 @@ returns-in_err-put_shown-clause-put g c =
     let new = c.play-shown.new.self in
     let quantum = c.play-shown.ensures.quantum ∙ c.plays.invariant.quantum in
     let failed = err_from_is_err_and c.from_residual-in_err-put_shown.result c.from_residual-in_err-put_shown.ensures.1 in
-    rw failed.1 (way_cut c.args.n c.args.t.now c.plays.t new c.plays.gathered.items c.send_in_turn.new.gathered.items (g.K.Sink.taken c.args.out.now) (g.K.Sink.taken c.plays.out)
-    (g.K.Sink.taken c.send_in_turn.new.out) (g.K.Sink.taken c.put_shown.new.out)
-    told r.count c.t.inside.kernel.quantum c.plays.invariant.way c.in_ok-send_in_turn.ensures.text c.play-shown.ensures.played (ap (λ (u : Tasks). u.kernel.quantum) c.t.view_is ∙ quantum)
+    rw failed.1 (way_cut c.send_in_turn.new.gathered.items c.t.inside.kernel.quantum c.plays.invariant.way c.in_ok-send_in_turn.ensures.text c.play-shown.ensures.played
+    (ap (λ (u : Tasks). u.kernel.quantum) c.t.view_is ∙ quantum)
     c.in_err-put_shown.ensures.text)
 
 pub returns-clause-put : goal.returns-clause-put
 returns-clause-put g c =
     let way = c.plays.invariant.way in
-    let ended = all_ended c.args.n c.args.t.now c.plays.t c.plays.gathered.items (g.K.Sink.taken c.args.out.now) (g.K.Sink.taken c.plays.out) way c.requires.sound c.plays.invariant.sound
-    c.requires.unstarted.going
+    let ended = all_ended way c.requires.sound c.plays.invariant.sound c.requires.unstarted.going
     (λ task here going. let e : ◌≡◌ {A = Bool} false true = sym c.plays-test.false ∙ (c.goes_on.ensures.going task here).1 going in cc) in
-    sent_all c.send.result c.args.n c.args.t.now c.plays.t c.plays.gathered.items (g.K.Sink.taken c.args.out.now) (g.K.Sink.taken c.plays.out) (g.K.Sink.taken c.send.new.out) (way, ended)
-    c.send.ensures.text
+    sent_all c.send.result (g.K.Sink.taken c.send.new.out) (way, ended) c.send.ensures.text
 
 pub returns-in_err-send_in_turn-clause-turns : goal.returns-in_err-send_in_turn-clause-turns
 returns-in_err-send_in_turn-clause-turns g c =

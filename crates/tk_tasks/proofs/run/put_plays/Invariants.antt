@@ -1,5 +1,5 @@
 use Rattle.std.proofs.Common.{◌≡◌, ◌≤◌, ◌%◌, length, false}
-use Rattle.line_gathering.specs.Gathering.{turn_steps}
+use Rattle.printed_text.specs.Gathering.{turn_steps}
 use Rattle.tk_tasks.specs.States.{AreSound, turns_of}
 use Rattle.tk_tasks.specs.InTurn.{GoOutInTurn}
 use Rattle.tk_tasks.specs.Running.{IsUnderWay}

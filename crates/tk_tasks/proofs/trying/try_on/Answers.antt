@@ -1,5 +1,4 @@
 use Rattle.std.proofs.Common.{refl, sym, ◌∙◌}
-use Rattle.program_steps.specs.Wholes.{whole}
 use Rattle.tk_tasks.specs.Trying.{HasTried}
 use Rattle.tk_tasks.proofs.Trials.{tried_taken, tried_steps, entered_in}
 use Rattle.tk_tasks.proofs.trying.try_on.Goals as goal
@@ -9,18 +8,16 @@ returns-in-Some-clause-tried c = HasTried.Rests c.in-Some.end (sym c.rest_at.ens
 
 pub returns-then-must_take-clause-tried : goal.returns-then-must_take-clause-tried
 returns-then-must_take-clause-tried c =
-    tried_taken (whole c.args.k.now c.args.p.now) (whole c.interrupted.new.k c.interrupted.new.p) c.args.left c.interrupted.result (sym c.rest_at.ensures.value ∙ c.in_default.is) c.interrupted.ensures.one c.interrupted.ensures.stepped c.interrupted.ensures.behind
+    tried_taken (sym c.rest_at.ensures.value ∙ c.in_default.is) c.interrupted.ensures.one c.interrupted.ensures.stepped c.interrupted.ensures.behind
 
 pub stepped-requires-clause-ready : goal.stepped-requires-clause-ready
-stepped-requires-clause-ready c =
-    (entered_in (whole c.args.k.now c.args.p.now) (whole c.enter.new.k c.enter.new.p) c.enter.result c.args.left (sym c.rest_at.ensures.value ∙ c.in_default.is) c.requires.unfailing c.enter.ensures.entered).ready
+stepped-requires-clause-ready c = (entered_in c.args.left (sym c.rest_at.ensures.value ∙ c.in_default.is) c.requires.unfailing c.enter.ensures.entered).ready
 
 pub stepped-requires-clause-placed : goal.stepped-requires-clause-placed
-stepped-requires-clause-placed c =
-    (entered_in (whole c.args.k.now c.args.p.now) (whole c.enter.new.k c.enter.new.p) c.enter.result c.args.left (sym c.rest_at.ensures.value ∙ c.in_default.is) c.requires.unfailing c.enter.ensures.entered).placed
+stepped-requires-clause-placed c = (entered_in c.args.left (sym c.rest_at.ensures.value ∙ c.in_default.is) c.requires.unfailing c.enter.ensures.entered).placed
 
 pub returns-clause-tried : goal.returns-clause-tried
 returns-clause-tried c =
     let none = sym c.rest_at.ensures.value ∙ c.in_default.is in
-    let entered = entered_in (whole c.args.k.now c.args.p.now) (whole c.enter.new.k c.enter.new.p) c.enter.result c.args.left none c.requires.unfailing c.enter.ensures.entered in
-    tried_steps (whole c.args.k.now c.args.p.now) (whole c.enter.new.k c.enter.new.p) (whole c.stepped.new.k c.stepped.new.p) c.args.left c.stepped.result none entered.entered c.stepped.ensures.made
+    let entered = entered_in c.args.left none c.requires.unfailing c.enter.ensures.entered in
+    tried_steps none entered.entered c.stepped.ensures.made

@@ -1,8 +1,7 @@
-use Rattle.std.proofs.Common.{◌+◌, ◌++◌, ℕ, List, refl, sym, ◌∙◌, ap, subst, arith, inl, inr}
+use Rattle.std.proofs.Common.{◌+◌, ℕ, List, refl, ◌∙◌, arith, inl, inr}
 use Rattle.std.specs.Prelude.{slice_index}
 use Rattle.std.proofs.lemmas.Bool.{cases_lt}
 use Rattle.std.proofs.lemmas.Result.{err_from_is_err_and}
-use Rattle.byte_streams.specs.Streams.{CutShort, IsSent}
 use Rattle.heap_frames.specs.Memory.{vmem}
 use Rattle.tk_watch.specs.ChangesText.{change_text}
 use Rattle.tk_watch.proofs.HeldNow.{front_next, later_next, none_changed, now_next, rows_between, size_next}
@@ -14,13 +13,11 @@ bytes-init g c =
     let memory = vmem c.args.mote.now.sram c.args.mote.now.swap in
     let row : ℕ → List ℕ = λ i. change_text c.args.step c.args.outset.pc (c.args.range.0 + i) (slice_index c.args.bytes.now i) (slice_index memory (c.args.range.0 + i)) in
     let none = rows_between row 0 c.args.outset.reach.0 (omega arith)
-    (λ i above below. none_changed c.args.step c.args.outset.pc (c.args.range.0 + i) (slice_index c.args.bytes.now i) (slice_index memory (c.args.range.0 + i))
-    (c.requires.held i (omega (arith, below, c.requires.order, c.requires.reach)) (λ within. absurd (omega (arith, within.0, below))))) in
+    (λ i above below. none_changed _ _ _ _ _ (c.requires.held i (omega (arith, below, c.requires.order, c.requires.reach)) (λ within. absurd (omega (arith, within.0, below))))) in
     record {
       from = omega arith;
       within = c.requires.order;
-      sent = subst (λ t. IsSent (c.args.gathered.now.items ++ t) c.args.gathered.now.items (g.K.Sink.taken c.args.out.now) (g.K.Sink.taken c.args.out.now)) (sym none)
-          (rows_begin row c.args.gathered.now.items (g.K.Sink.taken c.args.out.now));
+      sent = rw none (rows_begin row c.args.gathered.now.items (g.K.Sink.taken c.args.out.now));
       size = c.requires.size;
       now = λ j above below. absurd (omega (arith, above, below));
       front = λ j below. refl;
@@ -31,16 +28,12 @@ bytes-init g c =
 pub bytes-preserved : goal.bytes-preserved
 bytes-preserved g c =
     let memory = vmem c.args.mote.now.sram c.args.mote.now.swap in
-    let row : ℕ → List ℕ = λ i. change_text c.args.step c.args.outset.pc (c.args.range.0 + i) (slice_index c.args.bytes.now i) (slice_index memory (c.args.range.0 + i)) in
     let was = c.bytes.invariant.later c.bytes.i (omega arith) in
     let value = c.memory_byte-now.ensures.value in
-    let told = ap (λ v. change_text c.args.step c.args.outset.pc (c.args.range.0 + c.bytes.i) v c.memory_byte-now.result) was
-    ∙ ap (change_text c.args.step c.args.outset.pc (c.args.range.0 + c.bytes.i) (slice_index c.args.bytes.now c.bytes.i)) value in
-    let line = subst (λ t. IsSent (c.bytes.gathered.items ++ t) c.tell_byte.new.gathered.items (g.K.Sink.taken c.bytes.out) (g.K.Sink.taken c.tell_byte.new.out)) told c.in_ok-tell_byte.ensures.text in
     record {
       from = omega (arith, c.bytes.invariant.from);
       within = omega (arith, c.bytes-test.true);
-      sent = rows_next row c.bytes.i c.args.gathered.now.items c.bytes.gathered.items c.tell_byte.new.gathered.items _ _ _ c.bytes.invariant.sent line;
+      sent = rows_next _ c.args.gathered.now.items c.bytes.i c.bytes.invariant.sent (rw (was, value) at c.in_ok-tell_byte.ensures.text);
       size = size_next c.bytes.bytes c.bytes.i c.memory_byte-now.result c.bytes.invariant.size;
       now = now_next memory c.bytes.bytes c.args.outset.reach.0 c.args.range.0 c.bytes.i c.memory_byte-now.result
           (omega (arith, c.bytes.invariant.size, c.bytes-test.true, c.requires.reach, c.requires.few)) value c.bytes.invariant.now;
@@ -51,23 +44,18 @@ bytes-preserved g c =
 
 pub returns-in_err-tell_byte-clause-text : goal.returns-in_err-tell_byte-clause-text
 returns-in_err-tell_byte-clause-text g c =
-    let memory = vmem c.args.mote.now.sram c.args.mote.now.swap in
-    let row : ℕ → List ℕ = λ i. change_text c.args.step c.args.outset.pc (c.args.range.0 + i) (slice_index c.args.bytes.now i) (slice_index memory (c.args.range.0 + i)) in
     let was = c.bytes.invariant.later c.bytes.i (omega arith) in
-    let told = ap (λ v. change_text c.args.step c.args.outset.pc (c.args.range.0 + c.bytes.i) v c.memory_byte-now.result) was
-    ∙ ap (change_text c.args.step c.args.outset.pc (c.args.range.0 + c.bytes.i) (slice_index c.args.bytes.now c.bytes.i)) c.memory_byte-now.ensures.value in
     let failed = err_from_is_err_and c.from_residual.result c.from_residual.ensures.1 in
-    let line = subst (λ t. CutShort (g.K.Sink.taken c.bytes.out) (g.K.Sink.taken c.tell_byte.new.out) (c.bytes.gathered.items ++ t)) told c.in_err-tell_byte.ensures.text in
-    rw failed.1 (rows_cut row c.bytes.i c.args.range.1 c.args.gathered.now.items c.bytes.gathered.items _ _ _ (omega (arith, c.bytes-test.true, c.requires.reach)) c.bytes.invariant.sent line)
+    rw failed.1 (rows_cut _ c.args.gathered.now.items c.bytes.i c.args.range.1 _ (omega (arith, c.bytes-test.true, c.requires.reach)) c.bytes.invariant.sent
+    (rw (was, c.memory_byte-now.ensures.value) at c.in_err-tell_byte.ensures.text))
 
 pub returns-clause-text : goal.returns-clause-text
 returns-clause-text g c =
     let memory = vmem c.args.mote.now.sram c.args.mote.now.swap in
     let row : ℕ → List ℕ = λ i. change_text c.args.step c.args.outset.pc (c.args.range.0 + i) (slice_index c.args.bytes.now i) (slice_index memory (c.args.range.0 + i)) in
     let all = rows_between row c.bytes.i c.args.range.1 (omega (arith, c.bytes.invariant.within, c.requires.reach))
-    (λ i above below. none_changed c.args.step c.args.outset.pc (c.args.range.0 + i) (slice_index c.args.bytes.now i) (slice_index memory (c.args.range.0 + i))
-    (c.requires.held i below (λ within. absurd (omega (arith, within.1, above, c.bytes-test.false))))) in
-    subst (λ t. IsSent (c.args.gathered.now.items ++ t) c.bytes.gathered.items (g.K.Sink.taken c.args.out.now) (g.K.Sink.taken c.bytes.out)) (sym all) c.bytes.invariant.sent
+    (λ i above below. none_changed _ _ _ _ _ (c.requires.held i below (λ within. absurd (omega (arith, within.1, above, c.bytes-test.false))))) in
+    rw all c.bytes.invariant.sent
 
 pub returns-clause-held : goal.returns-clause-held
 returns-clause-held g c = λ i below. elim (cases_lt i c.args.outset.reach.0) [

@@ -10,9 +10,9 @@ abbrev pub invariant-bytes : goal.invariant-bytes
 invariant-bytes g l = record {
   from : l.outset.reach.0 ≤ l.i;
   within : l.i ≤ l.outset.reach.1;
-  sent : IsSent (l.fn.gathered.items
-      ++ rows (λ i. change_text l.step l.outset.pc (l.range.0 + i) (slice_index l.fn.bytes i) (slice_index (vmem l.mote.sram l.mote.swap) (l.range.0 + i))) l.i) l.gathered.items
-      (g.K.Sink.taken l.fn.out) (g.K.Sink.taken l.out);
+  sent : IsSent
+      (l.fn.gathered.items ++ rows (λ i. change_text l.step l.outset.pc (l.range.0 + i) (slice_index l.fn.bytes i) (slice_index (vmem l.mote.sram l.mote.swap) (l.range.0 + i))) l.i)
+      l.gathered.items (g.K.Sink.taken l.fn.out) (g.K.Sink.taken l.out);
   size : length l.bytes ≡ 64;
   now : (j : ℕ) → l.outset.reach.0 ≤ j → j < l.i → slice_index l.bytes j ≡ slice_index (vmem l.mote.sram l.mote.swap) (l.range.0 + j);
   front : (j : ℕ) → j < l.outset.reach.0 → slice_index l.bytes j ≡ slice_index l.fn.bytes j;

@@ -1,7 +1,7 @@
 use Rattle.std.proofs.Common.{◌≡◌, ℕ, ◌+◌, ◌++◌, codes, length, sym, ap, ◌∙◌, append_assoc, arith}
 use Rattle.std.specs.Prelude.{slice_index}
 use Rattle.heap_frames.specs.Memory.{vmem}
-use Rattle.line_writer.specs.Pieces.{address_text, byte_text}
+use Rattle.text_lines.specs.Pieces.{address_text, byte_text}
 use Rattle.tk_watch.specs.MemoryText.{byte_told}
 use Rattle.tk_watch.proofs.HeldBytes.{filled_next, none_filled, row_blank, row_told}
 use Rattle.tk_watch.proofs.Rows.{row_begins, row_goes_on}

@@ -2,7 +2,7 @@ use Rattle.std.proofs.Common.{◌+◌, ◌-◌, ◌*◌, ◌≡◌, ◌≤◌, �
 use Rattle.std.specs.Prelude.{slice_index}
 use Rattle.arrayvec.specs.ArrayVec.{array_vec_len}
 use Rattle.heap_frames.specs.Memory.{vmem}
-use Rattle.line_writer.specs.Pieces.{address_text}
+use Rattle.text_lines.specs.Pieces.{address_text}
 use Rattle.tk_watch.specs.MemoryText.{byte_told, is_filled}
 use Rattle.tk_watch.specs.Rows.{rows}
 use Rattle.tk_watch.proofs.memory.row_line.Given as goal

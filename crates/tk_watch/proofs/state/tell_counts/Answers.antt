@@ -1,7 +1,7 @@
 use Rattle.std.proofs.Common.{◌++◌, subst, ◌∙◌}
 use Rattle.byte_streams.specs.Streams.{IsSent}
-use Rattle.line_gathering.specs.Gathering.{Gathers}
-use Rattle.line_gathering.proofs.Gathered.{gathers_on}
+use Rattle.printed_text.specs.Gathering.{Gathers}
+use Rattle.printed_text.proofs.Gathered.{gathers_on}
 use Rattle.tk_watch.proofs.StateLaws.{same_requests}
 use Rattle.tk_watch.proofs.state.tell_counts.Goals as goal
 

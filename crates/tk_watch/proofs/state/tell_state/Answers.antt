@@ -4,7 +4,7 @@ use Rattle.std.proofs.lemmas.Result.{err_from_is_err_and}
 use Rattle.byte_streams.specs.Streams.{CutShort, IsSent}
 use Rattle.heap_frames.specs.Frames.{pages}
 use Rattle.kernel_entry.specs.Parts.{virtual_sp}
-use Rattle.line_gathering.proofs.Gathered.{cut_first, gathers_on}
+use Rattle.printed_text.proofs.Gathered.{cut_first, gathers_on}
 use Rattle.mote_devices.specs.State.{stored, mask_address}
 use Rattle.program_steps.specs.Machines.{Machine}
 use Rattle.program_steps.specs.Wholes.{whole}

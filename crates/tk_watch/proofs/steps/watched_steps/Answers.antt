@@ -1,14 +1,43 @@
-use Rattle.std.proofs.Common.{◌≡◌, ◌+◌, ◌++◌, ℕ, [], subst, arith}
+use Rattle.std.proofs.Common.{◌≡◌, ◌+◌, ◌-◌, ◌%◌, ◌≤◌, arith}
 use Rattle.std.proofs.lemmas.Result.{err_from_is_err_and}
-use Rattle.byte_streams.specs.Streams.{CutShort, IsSent}
-use Rattle.step_laws.specs.Moves.{line_before}
-use Rattle.program_steps.specs.Machines.{flat_of}
+use Rattle.printed_text.specs.Gathering.{turn_steps}
 use Rattle.program_steps.specs.Wholes.{whole}
 use Rattle.tk_run.proofs.InTurn.{bound_counts}
-use Rattle.tk_watch.specs.Kept.{step_told}
-use Rattle.tk_watch.proofs.Turns.{AreUntold, some_steps}
+use Rattle.tk_watch.specs.Watching.{GoOutInTurn, HasTold}
+use Rattle.tk_watch.proofs.Turns.{AreUntold, HasGone, some_steps}
 use Rattle.tk_watch.proofs.Telling.{IsToldSoFar, cut_gone, cut_in_turn, cut_start, held_beside, told_bound, told_ended, told_gone, told_in_turn, told_start, turned_on, turns_left, turns_on}
+use Rattle.tk_watch.proofs.steps.watched_steps.Given.{Over}
+use Rattle.tk_watch.proofs.steps.watched_steps.Goals.{In-Some, In_default, In_ok-send_in_turn}
 use Rattle.tk_watch.proofs.steps.watched_steps.Goals as goal
+
+-- what was told, behind what went out in turn
+sent : (g : Over) (c : In_ok-send_in_turn g) → IsToldSoFar c.args.view.now (whole c.args.k.now c.args.p.now) (whole c.turns.k c.turns.p) c.turns.done c.send_in_turn.new.gathered.items
+    (g.K.Sink.taken c.args.out.now) (g.K.Sink.taken c.send_in_turn.new.out)
+sent g c = told_in_turn c.turns.invariant.way c.in_ok-send_in_turn.ensures.text
+
+-- .. and all of it went out at each turn up to the next
+in_turn : (g : Over) (c : In_ok-send_in_turn g) → GoOutInTurn g.K.Sink.taken c.args.view.now (whole c.args.k.now c.args.p.now) c.args.out.now (c.turns.done + (turn_steps - c.turns.done % turn_steps))
+in_turn g c = turns_on g.K.Sink.taken c.args.view.now _ _ c.args.out.now c.send_in_turn.new.out c.turns.done c.send_in_turn.new.gathered.items c.turns.invariant.turns
+    (sent g c) c.in_ok-send_in_turn.ensures.turn
+
+-- behind the turn in which the program ended
+over : (g : Over) (c : In-Some g)
+    → HasTold c.args.view.now (whole c.args.k.now c.args.p.now) (whole c.turn-count.new.k c.turn-count.new.p) c.args.n c.send_in_turn.new.gathered.items (g.K.Sink.taken c.args.out.now)
+    (g.K.Sink.taken c.send_in_turn.new.out) c.in-Some.end
+    × (c.turn-count.new.p.steps ≤ c.turns.done + c.turn-count.result)
+over g c =
+    let untold : AreUntold c.args.view.now c.turns.done c.turn-count.result = λ step from to. c.untold_steps.ensures.untold step from (omega (arith, to, c.turn-count.ensures.most, c.min.ensures)) in
+    told_ended (sent g (goal.at.In-Some g c).In_ok-send_in_turn) untold c.requires.begins c.requires.going c.requires.whole c.turns-test.true
+    (omega (arith, c.turn-count.ensures.most, c.min.ensures, c.turns.invariant.within)) c.turn-count.ensures.turned c.in-Some.is
+
+-- behind one after which it goes on
+untold : (g : Over) (c : In_default g) → AreUntold c.args.view.now c.turns.done c.turn-count.result
+untold g c step from to = c.untold_steps.ensures.untold step from (omega (arith, to, c.turn-count.ensures.most, c.min.ensures))
+
+on : (g : Over) (c : In_default g)
+    → HasGone c.args.view.now (whole c.args.k.now c.args.p.now) (whole c.turns.k c.turns.p) (whole c.turn-count.new.k c.turn-count.new.p) c.turns.done
+    (c.turns.done + c.turn-count.result) c.turn-count.new.p.line
+on g c = turned_on c.turns.invariant.way (untold g c) c.turn-count.ensures.turned c.in_default.is
 
 pub returns-in_err-tell_front-clause-watched : goal.returns-in_err-tell_front-clause-watched
 returns-in_err-tell_front-clause-watched g c =
@@ -31,9 +60,7 @@ outset_of-outset-requires-clause-ready g c = c.turns.invariant.way.between.ready
 
 pub turns-init : goal.turns-init
 turns-init g c = record {
-  way =
-      told_start c.args.view.now (whole c.args.k.now c.args.p.now) c.args.gathered.now.items c.tell_front.new.gathered.items _ _
-      c.requires.ready c.requires.quiet c.requires.empty c.in_ok-tell_front.ensures.text;
+  way = told_start c.args.gathered.now.items c.requires.ready c.requires.quiet c.requires.empty c.in_ok-tell_front.ensures.text;
   cursor = c.forget.ensures.right c.args.k.now.layout c.args.k.now.mote.flash.words;
   held = c.watched_bytes-bytes.ensures.held;
   size = c.watched_bytes-bytes.ensures.size;
@@ -44,14 +71,8 @@ turns-init g c = record {
 
 pub returns-in_err-send_in_turn-clause-watched : goal.returns-in_err-send_in_turn-clause-watched
 returns-in_err-send_in_turn-clause-watched g c =
-    let old = whole c.args.k.now c.args.p.now in
-    let now = whole c.turns.k c.turns.p in
     let failed = err_from_is_err_and c.from_residual-in_err-send_in_turn.result c.from_residual-in_err-send_in_turn.ensures.1 in
-    rw failed.1 (record {
-      done = c.turns.done;
-      within = omega (arith, c.turns-test.true);
-      put = cut_in_turn c.args.view.now old now c.turns.done c.turns.gathered.items _ _ _ c.turns.invariant.way c.in_err-send_in_turn.ensures.text;
-    })
+    rw failed.1 (record { done = c.turns.done; within = omega (arith, c.turns-test.true); put = cut_in_turn c.turns.invariant.way _ c.in_err-send_in_turn.ensures.text })
 
 pub returns-in_err-send_in_turn-clause-turns : goal.returns-in_err-send_in_turn-clause-turns
 returns-in_err-send_in_turn-clause-turns g c =
@@ -59,74 +80,30 @@ returns-in_err-send_in_turn-clause-turns g c =
     (omega (arith, c.turns.invariant.way.between.ran.steps, c.requires.begins))
 
 pub returns-in-Some-clause-watched : goal.returns-in-Some-clause-watched
-returns-in-Some-clause-watched g c =
-    let view = c.args.view.now in
-    let old = whole c.args.k.now c.args.p.now in
-    let now = whole c.turns.k c.turns.p in
-    let new = whole c.turn-count.new.k c.turn-count.new.p in
-    let way = told_in_turn view old now c.turns.done c.turns.gathered.items c.send_in_turn.new.gathered.items _ _ _ c.turns.invariant.way c.in_ok-send_in_turn.ensures.text in
-    let untold : AreUntold view c.turns.done c.turn-count.result = λ step from to. c.untold_steps.ensures.untold step from (omega (arith, to, c.turn-count.ensures.most, c.min.ensures)) in
-    (told_ended view old now new c.turns.done c.turn-count.result c.args.n c.turn-count.new.p.line c.in-Some.end c.send_in_turn.new.gathered.items _ _ untold
-    c.requires.begins c.requires.going c.requires.whole c.turns-test.true (omega (arith, c.turn-count.ensures.most, c.min.ensures, c.turns.invariant.within))
-    way c.turn-count.ensures.turned c.in-Some.is).0
+returns-in-Some-clause-watched g c = (over g c).0
 
 pub returns-in-Some-clause-turns : goal.returns-in-Some-clause-turns
 returns-in-Some-clause-turns g c =
-    let view = c.args.view.now in
-    let old = whole c.args.k.now c.args.p.now in
-    let now = whole c.turns.k c.turns.p in
-    let new = whole c.turn-count.new.k c.turn-count.new.p in
-    let way = told_in_turn view old now c.turns.done c.turns.gathered.items c.send_in_turn.new.gathered.items _ _ _ c.turns.invariant.way c.in_ok-send_in_turn.ensures.text in
-    let untold : AreUntold view c.turns.done c.turn-count.result = λ step from to. c.untold_steps.ensures.untold step from (omega (arith, to, c.turn-count.ensures.most, c.min.ensures)) in
-    let most = (told_ended view old now new c.turns.done c.turn-count.result c.args.n c.turn-count.new.p.line c.in-Some.end c.send_in_turn.new.gathered.items _ _ untold
-    c.requires.begins c.requires.going c.requires.whole c.turns-test.true (omega (arith, c.turn-count.ensures.most, c.min.ensures, c.turns.invariant.within))
-    way c.turn-count.ensures.turned c.in-Some.is).1 in
-    turns_left g.K.Sink.taken view old c.args.out.now _ c.turn-count.new.p.steps
-    (turns_on g.K.Sink.taken view old now c.args.out.now c.send_in_turn.new.out c.turns.done c.send_in_turn.new.gathered.items c.turns.invariant.turns way c.in_ok-send_in_turn.ensures.turn)
-    (omega (arith, most, c.turn-count.ensures.most, c.min.ensures, c.untold_steps.ensures.most))
+    turns_left g.K.Sink.taken c.args.view.now _ c.args.out.now _ c.turn-count.new.p.steps (in_turn g (goal.at.In-Some g c).In_ok-send_in_turn)
+    (omega (arith, (over g c).1, c.turn-count.ensures.most, c.min.ensures, c.untold_steps.ensures.most))
 
 pub turns-smaller : goal.turns-smaller
-turns-smaller g c =
-    let some = some_steps (whole c.turns.k c.turns.p) (whole c.turn-count.new.k c.turn-count.new.p) c.turn-count.result c.turn-count.new.p.line c.turn-count.ensures.turned c.in_default.is in
-    omega (arith, some, c.turns-test.true, c.turn-count.ensures.most, c.min.ensures, c.turns.invariant.within)
+turns-smaller g c = omega (arith, some_steps c.turn-count.ensures.turned c.in_default.is, c.turns-test.true, c.turn-count.ensures.most, c.min.ensures, c.turns.invariant.within)
 
 pub tell_step-requires-clause-paged : goal.tell_step-requires-clause-paged
-tell_step-requires-clause-paged g c =
-    let view = c.args.view.now in
-    let old = whole c.args.k.now c.args.p.now in
-    let now = whole c.turns.k c.turns.p in
-    let new = whole c.turn-count.new.k c.turn-count.new.p in
-    let untold : AreUntold view c.turns.done c.turn-count.result = λ step from to. c.untold_steps.ensures.untold step from (omega (arith, to, c.turn-count.ensures.most, c.min.ensures)) in
-    let on = turned_on view old now new c.turns.done c.turn-count.result c.turn-count.new.p.line c.turns.gathered.items _ _ untold c.turns.invariant.way c.turn-count.ensures.turned c.in_default.is in
-    on.between.ready.order.paged
+tell_step-requires-clause-paged g c = (on g (goal.at.tell_step-requires-clause-paged g c).In_default).between.ready.order.paged
 
 pub tell_step-requires-clause-held : goal.tell_step-requires-clause-held
 tell_step-requires-clause-held g c =
-    let view = c.args.view.now in
-    let now = whole c.turns.k c.turns.p in
-    let new = whole c.turn-count.new.k c.turn-count.new.p in
-    let untold : AreUntold view c.turns.done c.turn-count.result = λ step from to. c.untold_steps.ensures.untold step from (omega (arith, to, c.turn-count.ensures.most, c.min.ensures)) in
-    held_beside view now new c.turns.done c.turn-count.result _ _ c.turn-count.new.p.line c.turns.bytes untold c.turn-count.ensures.turned c.in_default.is
-    c.outset_of-outset.ensures.spared c.turns.invariant.held
+    held_beside c.args.view.now c.turns.done _ _ c.turns.bytes (untold g
+    (goal.at.tell_step-requires-clause-held g c).In_default) c.turn-count.ensures.turned c.in_default.is c.outset_of-outset.ensures.spared c.turns.invariant.held
 
 pub turns-preserved : goal.turns-preserved
 turns-preserved g c =
-    let view = c.args.view.now in
-    let old = whole c.args.k.now c.args.p.now in
-    let now = whole c.turns.k c.turns.p in
-    let new = whole c.turn-count.new.k c.turn-count.new.p in
-    let way = told_in_turn view old now c.turns.done c.turns.gathered.items c.send_in_turn.new.gathered.items _ _ _ c.turns.invariant.way c.in_ok-send_in_turn.ensures.text in
-    let untold : AreUntold view c.turns.done c.turn-count.result = λ step from to. c.untold_steps.ensures.untold step from (omega (arith, to, c.turn-count.ensures.most, c.min.ensures)) in
-    let on = turned_on view old now new c.turns.done c.turn-count.result c.turn-count.new.p.line c.send_in_turn.new.gathered.items _ _ untold way c.turn-count.ensures.turned c.in_default.is in
-    let text = λ (pc : ℕ). c.send_in_turn.new.gathered.items ++ step_told view (c.turns.done + c.turn-count.result) (line_before c.turn-count.new.p.line []) pc c.turns.bytes (flat_of new).now in
-    let told = subst (λ pc. IsSent (text pc) c.tell_step.new.gathered.items (g.K.Sink.taken c.send_in_turn.new.out)
-    (g.K.Sink.taken c.tell_step.new.out)) c.outset_of-outset.ensures.pc c.in_ok-tell_step.ensures.text in
-    let next =
-    turns_on g.K.Sink.taken view old now c.args.out.now c.send_in_turn.new.out c.turns.done c.send_in_turn.new.gathered.items c.turns.invariant.turns way c.in_ok-send_in_turn.ensures.turn in
+    let way = sent g (goal.at.turns-preserved g c).In_ok-send_in_turn in
+    let next = in_turn g (goal.at.turns-preserved g c).In_ok-send_in_turn in
     record {
-      way =
-          told_gone view old now new c.turns.done (c.turns.done + c.turn-count.result) c.turn-count.new.p.line c.turns.bytes c.send_in_turn.new.gathered.items
-          c.tell_step.new.gathered.items _ _ _ on way c.turns.invariant.held told;
+      way = told_gone way c.turns.bytes (on g (goal.at.turns-preserved g c).In_default) c.turns.invariant.held (rw c.outset_of-outset.ensures.pc at c.in_ok-tell_step.ensures.text);
       cursor = c.turn-count.ensures.cursor;
       held = c.in_ok-tell_step.ensures.held;
       size = c.in_ok-tell_step.ensures.size;
@@ -137,44 +114,24 @@ turns-preserved g c =
 
 pub returns-in_err-tell_step-clause-watched : goal.returns-in_err-tell_step-clause-watched
 returns-in_err-tell_step-clause-watched g c =
-    let view = c.args.view.now in
-    let old = whole c.args.k.now c.args.p.now in
-    let now = whole c.turns.k c.turns.p in
-    let new = whole c.turn-count.new.k c.turn-count.new.p in
-    let way = told_in_turn view old now c.turns.done c.turns.gathered.items c.send_in_turn.new.gathered.items _ _ _ c.turns.invariant.way c.in_ok-send_in_turn.ensures.text in
-    let untold : AreUntold view c.turns.done c.turn-count.result = λ step from to. c.untold_steps.ensures.untold step from (omega (arith, to, c.turn-count.ensures.most, c.min.ensures)) in
-    let on = turned_on view old now new c.turns.done c.turn-count.result c.turn-count.new.p.line c.send_in_turn.new.gathered.items _ _ untold way c.turn-count.ensures.turned c.in_default.is in
-    let text = λ (pc : ℕ). c.send_in_turn.new.gathered.items ++ step_told view (c.turns.done + c.turn-count.result) (line_before c.turn-count.new.p.line []) pc c.turns.bytes (flat_of new).now in
-    let told = subst (λ pc. CutShort (g.K.Sink.taken c.send_in_turn.new.out) (g.K.Sink.taken c.tell_step.new.out) (text pc)) c.outset_of-outset.ensures.pc c.in_err-tell_step.ensures.text in
+    let at = goal.at.returns-in_err-tell_step-clause-watched g c in
     let failed = err_from_is_err_and c.from_residual-in_err-tell_step.result c.from_residual-in_err-tell_step.ensures.1 in
     rw failed.1 (record {
       done = c.turns.done + c.turn-count.result;
       within = omega (arith, c.turn-count.ensures.most, c.min.ensures, c.turns.invariant.within);
-      put =
-          cut_gone view old now new c.turns.done (c.turns.done + c.turn-count.result) c.turn-count.new.p.line c.turns.bytes c.send_in_turn.new.gathered.items _ _ _ on way c.turns.invariant.held told;
+      put = cut_gone (sent g at.In_ok-send_in_turn) _ c.turns.bytes (on g at.In_default) c.turns.invariant.held (rw c.outset_of-outset.ensures.pc at c.in_err-tell_step.ensures.text);
     })
 
 pub returns-in_err-tell_step-clause-turns : goal.returns-in_err-tell_step-clause-turns
 returns-in_err-tell_step-clause-turns g c =
-    let view = c.args.view.now in
-    let old = whole c.args.k.now c.args.p.now in
-    let now = whole c.turns.k c.turns.p in
-    let new = whole c.turn-count.new.k c.turn-count.new.p in
-    let way = told_in_turn view old now c.turns.done c.turns.gathered.items c.send_in_turn.new.gathered.items _ _ _ c.turns.invariant.way c.in_ok-send_in_turn.ensures.text in
-    let untold : AreUntold view c.turns.done c.turn-count.result = λ step from to. c.untold_steps.ensures.untold step from (omega (arith, to, c.turn-count.ensures.most, c.min.ensures)) in
-    let on = turned_on view old now new c.turns.done c.turn-count.result c.turn-count.new.p.line c.send_in_turn.new.gathered.items _ _ untold way c.turn-count.ensures.turned c.in_default.is in
-    turns_left g.K.Sink.taken view old c.args.out.now _ c.turn-count.new.p.steps
-    (turns_on g.K.Sink.taken view old now c.args.out.now c.send_in_turn.new.out c.turns.done c.send_in_turn.new.gathered.items c.turns.invariant.turns way c.in_ok-send_in_turn.ensures.turn)
-    (omega (arith, on.between.ran.steps, c.requires.begins, c.turn-count.ensures.most, c.min.ensures, c.untold_steps.ensures.most))
+    let at = goal.at.returns-in_err-tell_step-clause-turns g c in
+    turns_left g.K.Sink.taken c.args.view.now _ c.args.out.now _ c.turn-count.new.p.steps (in_turn g at.In_ok-send_in_turn)
+    (omega (arith, (on g at.In_default).between.ran.steps, c.requires.begins, c.turn-count.ensures.most, c.min.ensures, c.untold_steps.ensures.most))
 
 pub returns-clause-watched : goal.returns-clause-watched
 returns-clause-watched g c =
-    let old = whole c.args.k.now c.args.p.now in
-    let now = whole c.turns.k c.turns.p in
-    let new = whole c.at_bound.new.k c.at_bound.new.p in
     let done : c.turns.done ≡ c.args.n = omega (arith, c.turns-test.false, c.turns.invariant.within) in
-    told_bound c.args.view.now old now new c.args.n c.at_bound.result c.turns.gathered.items _ _ c.requires.begins c.requires.going c.requires.whole
-    (subst (λ i. IsToldSoFar c.args.view.now old now i c.turns.gathered.items (g.K.Sink.taken c.args.out.now) (g.K.Sink.taken c.turns.out)) done c.turns.invariant.way) c.at_bound.ensures.bound
+    told_bound (rw done at c.turns.invariant.way) c.requires.begins c.requires.going c.requires.whole c.at_bound.ensures.bound
 
 pub returns-clause-turns : goal.returns-clause-turns
 returns-clause-turns g c =

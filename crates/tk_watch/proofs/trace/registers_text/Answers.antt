@@ -1,6 +1,6 @@
 use Rattle.std.proofs.Common.{◌++◌, ℕ, List, [], codes, length, refl, ap, ◌∙◌, append_assoc, arith}
 use Rattle.std.specs.Prelude.{slice_index}
-use Rattle.line_writer.specs.Pieces.{byte_text}
+use Rattle.text_lines.specs.Pieces.{byte_text}
 use Rattle.tk_watch.specs.TraceText.{register_told}
 use Rattle.tk_watch.proofs.Rows.{row_begins, row_goes_on}
 use Rattle.tk_watch.proofs.trace.registers_text.Goals as goal

@@ -1,6 +1,6 @@
 use Rattle.std.proofs.Common.{◌++◌, ap, subst, ◌∙◌}
 use Rattle.byte_streams.specs.Streams.{IsSent}
-use Rattle.line_gathering.proofs.Gathered.{gathers_on}
+use Rattle.printed_text.proofs.Gathered.{gathers_on}
 use Rattle.tk_watch.specs.TraceText.{core_told}
 use Rattle.tk_watch.proofs.trace.tell_whole_row.Goals as goal
 

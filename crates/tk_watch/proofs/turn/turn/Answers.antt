@@ -1,8 +1,5 @@
-use Rattle.std.proofs.Common.{sym, ◌∙◌, subst, refl}
-use Rattle.std.specs.Prelude.{Option}
-use Rattle.kernel_entry.specs.declared.kernel.End.{End}
+use Rattle.std.proofs.Common.{sym, ◌∙◌, refl}
 use Rattle.program_steps.specs.Wholes.{whole}
-use Rattle.program_steps.specs.Stepping.{HasEntered}
 use Rattle.program_steps.proofs.TakingLaws.{untaken_of}
 use Rattle.program_steps.proofs.Owning.{open_admits}
 use Rattle.tk_run.proofs.Advancing.{can_step}
@@ -31,11 +28,7 @@ pub returns-then-must_take-clause-turned : goal.returns-then-must_take-clause-tu
 returns-then-must_take-clause-turned c = HasTurned.Interrupted (sym c.must_take.ensures.value ∙ c.if-must_take.true) c.take-end.ensures.stepped refl refl
 
 pub returns-in-Some-clause-turned : goal.returns-in-Some-clause-turned
-returns-in-Some-clause-turned c =
-    let P : Option End → Type 0 = λ r. HasEntered (whole c.args.k.now c.args.p.now) (whole c.enter.new.k c.enter.new.p) r in
-    HasTurned.Refused c.in-Some.field-0 (subst P c.in-Some.is c.enter.ensures.entered) refl refl
+returns-in-Some-clause-turned c = HasTurned.Refused c.in-Some.field-0 (rw c.in-Some.is at c.enter.ensures.entered) refl refl
 
 pub returns-clause-turned : goal.returns-clause-turned
-returns-clause-turned c =
-    let P : Option End → Type 0 = λ r. HasEntered (whole c.args.k.now c.args.p.now) (whole c.enter.new.k c.enter.new.p) r in
-    HasTurned.Stepped (whole c.enter.new.k c.enter.new.p) (subst P c.in_default.is c.enter.ensures.entered) c.steps.ensures.done
+returns-clause-turned c = HasTurned.Stepped (whole c.enter.new.k c.enter.new.p) (rw c.in_default.is at c.enter.ensures.entered) c.steps.ensures.done

@@ -18,9 +18,6 @@ use Rattle.tkernel_cli.proofs.restarting.restart_request.Goals as goal
 pub run_silently-requires-clause-image : goal.run_silently-requires-clause-image
 run_silently-requires-clause-image g c = subst IsImage c.image.view_is c.image.invariant
 
-pub lost_flash-flash-requires : goal.lost_flash-flash-requires
-lost_flash-flash-requires g c = record { layout = ap (λ (m : Machine). m.kernel.layout) (c.first.view_is ∙ sym c.take_cursor-cursor.ensures.same) }
-
 pub restart-told-requires : goal.restart-told-requires
 restart-told-requires g c =
     let request = c.args.request in
@@ -30,8 +27,9 @@ restart-told-requires g c =
     record {
       right = subst IsRight (sym layout) (layout_right (length request.image) c.words.ensures.image.few);
       length = ap length c.words.ensures.words ∙ sym (ap (λ (l : Layout). l.image_words) layout);
-      around = subst (λ i. HaveFormsAround c.first.inside.kernel.layout i c.lost_flash-flash.result.words)
-          (ap (λ (m : Machine). image_held m.kernel) c.take_cursor-cursor.ensures.same ∙ held ∙ sym c.words.ensures.words) c.lost_flash-flash.ensures.around;
+      around = subst (λ i. HaveFormsAround c.first.inside.kernel.layout i c.lost_flash-flash.result.words) (held ∙ sym c.words.ensures.words)
+          (subst (λ (l : Layout). HaveFormsAround l (image_held c.in-Ok-run_silently.machine.kernel) c.lost_flash-flash.result.words) (sym (ap (λ (m : Machine). m.kernel.layout) c.first.view_is))
+          (subst (λ (m : Machine). HaveFormsAround m.kernel.layout (image_held m.kernel) c.lost_flash-flash.result.words) c.take_cursor-cursor.ensures.same c.lost_flash-flash.ensures.around));
       sound = c.lost_flash-flash.ensures.sound;
       room = omega (arith, c.lost_flash-flash.ensures.few);
     }

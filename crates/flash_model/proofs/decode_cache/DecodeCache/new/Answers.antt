@@ -8,4 +8,9 @@ renew_range-requires-clause-outside c = decoded_none c.args.cells.now.words _ c.
 pub returns : goal.returns
 returns c =
     let words = c.args.cells.now.words in
-    record { cache = record { decoded = c.renew_range.ensures.decoded; micro_ops = micro_ops_stay words _ _ (ap (λ v. v.items) c.renew_range.ensures.micro_ops) (no_micro_op words _ c.in_ok-nothing_decoded.ensures.size c.in_ok-nothing_decoded.ensures.none) } }
+    record {
+      cache = record {
+        decoded = c.renew_range.ensures.decoded;
+        micro_ops = micro_ops_stay words _ _ (ap (λ v. v.items) c.renew_range.ensures.micro_ops) (no_micro_op words _ c.in_ok-nothing_decoded.ensures.size c.in_ok-nothing_decoded.ensures.none);
+      };
+    }

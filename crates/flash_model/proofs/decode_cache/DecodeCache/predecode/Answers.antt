@@ -1,5 +1,5 @@
 use Rattle.std.proofs.Common.{arith, subst}
-use Rattle.avr_ops.specs.MicroOps.{CanStandFor}
+use Rattle.flash_model.specs.MicroOps.{CanStandFor}
 use Rattle.flash_model.specs.declared.decoded.Decoded.{Decoded}
 use Rattle.flash_model.proofs.Renewing.{micro_op_set}
 use Rattle.flash_model.proofs.decode_cache.DecodeCache.predecode.Goals as goal

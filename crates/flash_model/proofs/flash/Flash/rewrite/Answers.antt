@@ -8,18 +8,17 @@ use Rattle.flash_model.proofs.Renewing.{erased_beside, rewritten_beside}
 use Rattle.flash_model.proofs.flash.Flash.rewrite.Goals as goal
 
 pub first_changed-from-requires : goal.first_changed-from-requires
-first_changed-from-requires c = record { sized = ap length c.page-before.ensures.value ∙ length-page_of c.self.inside.cells.words c.args.page (omega (arith, c.page-before.ensures.whole.words, c.requires.page)) }
+first_changed-from-requires c =
+    record { sized = ap length c.page-before.ensures.value ∙ length-page_of c.self.inside.cells.words c.args.page (omega (arith, c.page-before.ensures.whole.words, c.requires.page)) }
 
 pub last_changed-to-requires-clause-sized : goal.last_changed-to-requires-clause-sized
-last_changed-to-requires-clause-sized c = ap length c.page-before.ensures.value ∙ length-page_of c.self.inside.cells.words c.args.page (omega (arith, c.page-before.ensures.whole.words, c.requires.page))
+last_changed-to-requires-clause-sized c = ap length c.page-before.ensures.value
+    ∙ length-page_of c.self.inside.cells.words c.args.page (omega (arith, c.page-before.ensures.whole.words, c.requires.page))
 
 pub rewrite-requires-clause-changed : goal.rewrite-requires-clause-changed
 rewrite-requires-clause-changed c = λ k within apart.
     let same : slice_index (page_of c.self.inside.cells.words c.args.page) k ≡ slice_index c.page-before.result.now k = ap (λ w. slice_index w k) (sym c.page-before.ensures.value) in
-    elim apart [
-      | inl below ↦ same ∙ c.first_changed-from.ensures.same k below
-      | inr above ↦ same ∙ c.last_changed-to.ensures.same k above within
-    ]
+    same ∙ elim apart [ inl below ↦ c.first_changed-from.ensures.same k below | inr above ↦ c.last_changed-to.ensures.same k above within ]
 
 -- neither is refused: what the page held of the words stays
 pub renew-requires-clause-beside : goal.renew-requires-clause-beside

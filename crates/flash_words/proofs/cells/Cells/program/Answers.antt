@@ -15,4 +15,5 @@ returns-clause-others c = λ a out.
     let rest = subst (λ page. IsBlankFrom page count) is c.used_words-count.ensures.rest in
     let whole = c.self.invariant.0 in
     let same : old ≡ c.args.self.now.words = ap (λ (m : Memory). m.words) (c.self.view_is ∙ c.in_ok-begin.ensures.going) in
-    ap (λ words. word_at words a) (c.set.ensures.value ∙ ap (set_page old page) is) ∙ others_left old new page count a whole.words whole.words_fit c.requires.page c.told-words rest out ∙ ap (λ words. word_at words a) same
+    ap (λ words. word_at words a) (c.set.ensures.value ∙ ap (set_page old page) is) ∙ others_left old new page count a whole.words whole.words_fit c.requires.page c.told-words rest out
+    ∙ ap (λ words. word_at words a) same

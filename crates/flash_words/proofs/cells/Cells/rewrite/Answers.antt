@@ -19,7 +19,8 @@ both_done : (old mid last : Memory) (erases now : List ℕ) (page : ℕ) (words 
 both_done old mid last erases now page words inside mid_is erases_is last_is now_is =
     let told : last ≡ counted (record old { ops = next_op old }) page =
     last_is ∙ ap (λ es. record mid { erases = es; ops = next_op mid }) erases_is ∙ ap (λ (m : Memory). counted m page) mid_is in
-    let same : now ≡ set_page (set_page old.words page blank) page words = now_is ∙ ap (λ (m : Memory). set_page m.words page words) told ∙ sym (set_page_twice old.words blank words page length-blank inside) in
+    let same : now ≡ set_page (set_page old.words page blank) page words = now_is ∙ ap (λ (m : Memory). set_page m.words page words) told
+    ∙ sym (set_page_twice old.words blank words page length-blank inside) in
     ap (λ ws. record last { words = ws }) same ∙ ap (λ (m : Memory). record m { words = set_page (set_page old.words page blank) page words }) told
 
 pub set-requires-clause-rest : goal.set-requires-clause-rest
@@ -33,6 +34,7 @@ returns-in-Ok-clause-performed c =
     let mid_is = c.self.view_is ∙ c.in_default.ensures.going in
     let first : fails old ≡ false = c.in_default.ensures.free in
     let second : fails (erased_page old page) ≡ false = ap fails (sym mid_is) ∙ c.in-Ok.ensures.free in
-    let done = both_done old _ _ c.count_erase.new.erases.items c.change.new.self page new (omega (arith, c.begin.ensures.whole.0.words)) mid_is c.count_erase.ensures.value (c.self-2.view_is ∙ c.in-Ok.ensures.going) c.change.ensures.value in
+    let done = both_done old _ _ c.count_erase.new.erases.items c.change.new.self page new (omega (arith, c.begin.ensures.whole.0.words)) mid_is c.count_erase.ensures.value
+    (c.self-2.view_is ∙ c.in-Ok.ensures.going) c.change.ensures.value in
     let told : Memory → Performed = λ m. record { memory = m; refusal = None } in
     rw (first, second) (ap told (sym done))

@@ -17,4 +17,7 @@ words-preserved c = record {
 }
 
 pub returns : goal.returns
-returns c = record { jumps = λ all at own. jumps_extended all c.words.self c.args.page c.words.k c.args.to (λ below. omega (arith, c.words-test.false, c.min-k-end.ensures)) (c.words.invariant.outside all at own) }
+returns c = record {
+  jumps = λ all at own. jumps_extended all c.words.self c.args.page c.words.k c.args.to (λ below. omega (arith, c.words-test.false, c.min-k-end.ensures))
+      (c.words.invariant.outside all at own);
+}

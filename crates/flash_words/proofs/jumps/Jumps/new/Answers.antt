@@ -29,5 +29,6 @@ pages-preserved c =
         | inl earlier ↦ set_else words sets c.pages.page page set (λ same. omega arith) (before.each page earlier)
         | inr later ↦ subst (HasSet words (slice_set sets c.pages.page set)) (omega arith) (set_here words sets c.pages.page set (omega (arith, before.sized)) has)
       ];
-      sources = λ page below. source_of_each sets c.add_source_of_each.new.sources.items c.pages.page page set (omega (arith, before.sized)) c.add_source_of_each.ensures.here (λ apart target s few led. c.add_source_of_each.ensures.others target page (before.sources page (omega arith) target s few led));
+      sources = λ page below. source_of_each sets c.add_source_of_each.new.sources.items c.pages.page page set (omega (arith, before.sized)) c.add_source_of_each.ensures.here
+          (λ apart target s few led. c.add_source_of_each.ensures.others target page (before.sources page (omega arith) target s few led));
     }

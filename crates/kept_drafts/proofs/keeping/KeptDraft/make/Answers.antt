@@ -1,5 +1,4 @@
-use Rattle.std.proofs.Common.{◌≡◌, ◌/◌, ◌%◌, ℕ, List, false, ap, arith, subst, sym, ◌∙◌}
-use Rattle.std.specs.Prelude.{slice_index_or}
+use Rattle.std.proofs.Common.{◌/◌, ℕ, List, ap, arith, sym, ◌∙◌}
 use Rattle.flash_words.specs.Pages.{page_words, word_at}
 use Rattle.flash_words.specs.Layouts.{image_of}
 use Rattle.nat_page.proofs.DraftedLaws.{prepared_of}
@@ -27,7 +26,7 @@ invariant_of-self c =
           next = next;
           at_entry = c.is_entry_behind.ensures.paged;
           alone = λ none. stops_alone layout image words t last c.args.known.now c.requires.known c.requires.image (drafted.begun.run.paged last (omega arith)) drafted.stops
-              (λ same inside. subst (λ (a : ℕ). slice_index_or c.args.known.now (a % page_words) false ≡ false) next
+              (λ same inside. rw next at
               (c.is_entry_behind.ensures.none none (ap (λ a. a / page_words) next ∙ same) (omega (arith, next, inside))));
           words = drafted.is;
           front = drafted.front;
@@ -44,5 +43,4 @@ pub returns : goal.returns
 returns c =
     let layout = c.args.layout.now in
     let words = c.args.flash.now.words in
-    let drafted = c.draft_page-page.ensures.drafted in
-    record { serves = λ page free. prepared_of layout (image_of layout words) words page c.args.t c.draft_page-page.result free drafted }
+    record { serves = λ page free. prepared_of layout (image_of layout words) words page c.args.t c.draft_page-page.result free c.draft_page-page.ensures.drafted }

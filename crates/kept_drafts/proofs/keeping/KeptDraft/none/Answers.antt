@@ -4,8 +4,4 @@ use Rattle.kept_drafts.proofs.KeepLaws.{undecoded_stand}
 use Rattle.kept_drafts.proofs.keeping.KeptDraft.none.Goals as goal
 
 pub invariant_of-result : goal.invariant_of-result
-invariant_of-result c = record {
-  drafted = λ made. absurd (true≢false (sym made));
-  few = omega arith;
-  micro_ops = undecoded_stand (replicate 128 0);
-}
+invariant_of-result c = record { drafted = λ made. absurd (true≢false (sym made)); few = omega arith; micro_ops = undecoded_stand (replicate 128 0) }

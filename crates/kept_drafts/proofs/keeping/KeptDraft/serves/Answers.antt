@@ -20,6 +20,8 @@ returns c =
     record {
       serves = λ same.
           let original = λ (k : ℕ) (near : k < page_words). ap (λ (ws : List ℕ). word_at ws k) (sym c.page.ensures.value) ∙ c.are_same.ensures.same same k near in
-          let read = flash_has layout words inside.original (t / page_words) inside.behind c.page.ensures.whole.words c.requires.image c.requires.right.image_fits original (c.if-self-word_behind.false ∙ c.word_behind.ensures.word) in
-          serves_now layout image words (the_view inside) c.args.self.now c.args.known.now draft.0 t draft.1 c.self.view_is c.if-self-t.false c.requires.known (c.requires.image ∙ sym c.if-self-layout.false) read (λ k above below. c.if-not-none_is_known.ensures.none refl k above below) (c.if-not-stops_still.ensures.still refl);
+          let read = flash_has layout words inside.original (t / page_words) inside.behind c.page.ensures.whole.words c.requires.image c.requires.right.image_fits original
+          (c.if-self-word_behind.false ∙ c.word_behind.ensures.word) in
+          serves_now layout image words (the_view inside) c.args.self.now c.args.known.now draft.0 t draft.1 c.self.view_is c.if-self-t.false c.requires.known
+          (c.requires.image ∙ sym c.if-self-layout.false) read (λ k above below. c.if-not-none_is_known.ensures.none refl k above below) (c.if-not-stops_still.ensures.still refl);
     }

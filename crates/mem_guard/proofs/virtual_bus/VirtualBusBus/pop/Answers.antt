@@ -1,19 +1,13 @@
-use Rattle.mem_guard.specs.Bus.{guarded_of}
-use Rattle.mem_guard.specs.Left.{KeepsHeap}
 use Rattle.mem_guard.proofs.Alike.{pop_alike}
 use Rattle.mem_guard.proofs.Leaves.{pop_leaves_kept}
 use Rattle.mem_guard.proofs.FlatCalls.{flat_answer, kept_by, heap_by}
 use Rattle.mem_guard.proofs.virtual_bus.VirtualBusBus.pop.Goals as goal
 
 pub returns-clause-flat : goal.returns-clause-flat
-returns-clause-flat c = flat_answer _ _ _ _ c.pop_byte.ensures.answer (pop_alike (guarded_of c.args.self.now) c.args.sp c.requires.ready.paged)
+returns-clause-flat c = flat_answer _ _ _ _ c.pop_byte.ensures.answer (pop_alike _ c.args.sp c.requires.ready.paged)
 
 pub returns-clause-kept : goal.returns-clause-kept
-returns-clause-kept c =
-    let g = guarded_of c.args.self.now in
-    kept_by (KeepsHeap g) g _ _ _ c.requires.ready.paged c.pop_byte.ensures.answer (pop_leaves_kept g c.args.sp c.requires.ready.paged) c.pop_byte.ensures.stop
+returns-clause-kept c = kept_by _ _ _ _ _ c.requires.ready.paged c.pop_byte.ensures.answer (pop_leaves_kept _ c.args.sp c.requires.ready.paged) c.pop_byte.ensures.stop
 
 pub returns-clause-heap : goal.returns-clause-heap
-returns-clause-heap c =
-    let g = guarded_of c.args.self.now in
-    heap_by (KeepsHeap g) g _ _ _ c.pop_byte.ensures.answer (pop_leaves_kept g c.args.sp c.requires.ready.paged)
+returns-clause-heap c = heap_by _ _ _ _ _ c.pop_byte.ensures.answer (pop_leaves_kept _ c.args.sp c.requires.ready.paged)

@@ -1,6 +1,6 @@
 use Rattle.std.proofs.Common.{rules}
 use Rattle.mote_devices.specs.Inputs.{unreceived}
-use Rattle.base_laws.specs.Lists.{many}
+use Rattle.base.specs.Lists.{many}
 use Rattle.mote_devices.specs.Queue.{bytes_between}
 use Rattle.mote_devices.proofs.inputs.Inputs.new.Goals as goal
 

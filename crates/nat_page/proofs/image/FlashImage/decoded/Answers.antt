@@ -9,5 +9,6 @@ returns-in-Some c =
     let words = c.args.self.now.flash.now.words in
     record {
       value = IfSome_then c.told.result c.told.ensures.value (λ instr is.
-          decoded_in_image layout words c.args.a instr c.word.ensures.whole.words (omega arith) (omega arith) (is.0 ∙ ap (λ d. d.instr) c.in-Some.ensures.value) (λ nop. sym c.word.ensures.value ∙ is.1 nop));
+          decoded_in_image layout words c.args.a instr c.word.ensures.whole.words (omega arith) (omega arith) (is.0 ∙ ap (λ d. d.instr) c.in-Some.ensures.value)
+          (λ nop. sym c.word.ensures.value ∙ is.1 nop));
     }

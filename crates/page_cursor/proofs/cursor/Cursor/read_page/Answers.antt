@@ -7,9 +7,7 @@ returns-then-not-is_code_page-clause-read c = λ t place same entry. absurd (c.i
 pub returns-then-not-is_code_page-clause-cursor : goal.returns-then-not-is_code_page-clause-cursor
 returns-then-not-is_code_page-clause-cursor c =
     let told = c.quiet_page.ensures in
-    let layout = c.args.layout.now in
-    let words = c.args.flash.now.words in
-    marks_quiet layout words c.make_room.new.self c.quiet_page.new.self c.args.page c.requires.below_kernel told.others told.quiet (c.is_code_page.ensures.none c.if-not-is_code_page.true) (kept_or_fresh layout words c.args.self.now.marks c.make_room.new.self c.make_room.ensures.kept c.requires.cursor)
+    marks_quiet _ _ _ _ _ c.requires.below_kernel told.others told.quiet (c.is_code_page.ensures.none c.if-not-is_code_page.true) (kept_or_fresh _ _ _ _ c.make_room.ensures.kept c.requires.cursor)
 
 pub returns-clause-read : goal.returns-clause-read
 returns-clause-read c = λ t place same entry. noted_there c.args.layout.now c.args.flash.now.words _ c.args.page t place c.requires.mapped c.note_entries.ensures.noted same entry
@@ -20,5 +18,6 @@ returns-clause-cursor c =
     let code = c.is_code_page.ensures.map c.if-not-is_code_page.false in
     let layout = c.args.layout.now in
     let words = c.args.flash.now.words in
-    marks_read layout words c.make_room.new.self c.note_entries.new.marks c.args.page c.requires.below_kernel c.requires.mapped code.0 code.1 (others_both c.make_room.new.self c.quiet_page.new.self c.note_entries.new.marks c.args.page c.quiet_page.ensures.others told.others) told.noted
+    marks_read layout words c.make_room.new.self c.note_entries.new.marks c.args.page c.requires.below_kernel c.requires.mapped code.0 code.1
+    (others_both c.make_room.new.self c.quiet_page.new.self c.note_entries.new.marks c.args.page c.quiet_page.ensures.others told.others) told.noted
     (kept_or_fresh layout words c.args.self.now.marks c.make_room.new.self c.make_room.ensures.kept c.requires.cursor)

@@ -11,4 +11,17 @@ unwrap-requires c =
     let none = ap length c.new-pieces.ensures in
     let before = ap length c.push_map.ensures.pieces in
     let all = length-append c.push-2.new.self.items (map (λ entry. Fixed (entry + (2 + c.len-count.result))) c.deref.result.now) in
-    c.try_extend_from_slice.ensures.variant.1 (omega (arith, few_pieces c.args.self.now.code.items, entries, code, none, before, all, length-map c.deref.result.now (λ entry. Fixed (entry + (2 + c.len-count.result))), c.push.ensures.len, c.push-2.ensures.len, c.requires.sized, c.requires.fits))
+    c.try_extend_from_slice.ensures.variant.1 (omega (
+      arith,
+      few_pieces c.args.self.now.code.items,
+      entries,
+      code,
+      none,
+      before,
+      all,
+      length-map c.deref.result.now (λ entry. Fixed (entry + (2 + c.len-count.result))),
+      c.push.ensures.len,
+      c.push-2.ensures.len,
+      c.requires.sized,
+      c.requires.fits,
+    ))

@@ -10,4 +10,18 @@ push_words-requires c =
     let none = ap length c.new-words.ensures in
     let before = ap length c.push_map_words.ensures.words in
     let all = length-append c.push-2.new.self.items (map (λ entry. entry + (2 + c.len-count.result)) c.deref.result.now) in
-    record { room = omega (arith, entries, code, none, before, all, length-map c.deref.result.now (λ entry. entry + (2 + c.len-count.result)), c.push.ensures.len, c.push-2.ensures.len, c.requires.sized, c.requires.fits) }
+    record {
+      room = omega (
+        arith,
+        entries,
+        code,
+        none,
+        before,
+        all,
+        length-map c.deref.result.now (λ entry. entry + (2 + c.len-count.result)),
+        c.push.ensures.len,
+        c.push-2.ensures.len,
+        c.requires.sized,
+        c.requires.fits,
+      );
+    }

@@ -1,5 +1,4 @@
-use Rattle.std.proofs.Common.{◌≡◌, ℕ, ◌+◌, ◌*◌, ◌/◌, ◌%◌, Ok, arith, ap, subst}
-use Rattle.page_index.specs.Entries.{IsEntry}
+use Rattle.std.proofs.Common.{◌≡◌, ◌+◌, ◌*◌, ◌/◌, ◌%◌, Ok, arith, ap}
 use Rattle.page_index.proofs.EntryLaws.{one_place}
 use Rattle.page_index.proofs.places.Places.search.Goals as goal
 
@@ -8,8 +7,7 @@ pub returns-then-not-survey-t-clause-only : goal.returns-then-not-survey-t-claus
 returns-then-not-survey-t-clause-only c = λ v entry.
     let t = c.args.t in
     let there : t ≡ 128 * (t / 128) + t % 128 = omega arith in
-    let E : ℕ → Type 0 = λ a. IsEntry c.args.layout.now c.args.flash.now.words a v in
-    let known = c.survey_of-survey.ensures.survey.known.only (t % 128) v (omega arith) (subst E there entry) in
+    let known = c.survey_of-survey.ensures.survey.known.only (t % 128) v (omega arith) (rw there at entry) in
     absurd (cc)
 
 pub returns-in-Some-clause-only : goal.returns-in-Some-clause-only

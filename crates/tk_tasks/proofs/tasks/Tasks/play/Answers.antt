@@ -1,9 +1,9 @@
-use Rattle.std.proofs.Common.{◌≡◌, ℕ, List, refl, sym, ap, ◌∙◌, arith, subst}
+use Rattle.std.proofs.Common.{Bool, true, false, ◌≡◌, ℕ, List, refl, sym, ap, ◌∙◌, arith, subst}
 use Rattle.std.specs.Prelude.{slice_set}
 use Rattle.program_steps.specs.Machines.{Machine}
 use Rattle.program_steps.specs.Wholes.{whole}
 use Rattle.task_turns.specs.Turns.{Told}
-use Rattle.tk_tasks.specs.States.{Tasks, AreSound}
+use Rattle.tk_tasks.specs.States.{Tasks}
 use Rattle.tk_tasks.specs.Held.{value_of}
 use Rattle.tk_tasks.specs.Changes.{changed_tasks, IsFree}
 use Rattle.tk_tasks.specs.Trying.{HasPlayed, finished, tried_told, kept_tasks}
@@ -13,7 +13,7 @@ use Rattle.tk_tasks.proofs.tasks.Tasks.play.Goals.{After-progress-p, After-try_o
 
 -- the running task goes on
 begun : (c : After-progress-p) → Begins c.args.self.now c.self.inside.kernel c.progress-p.result
-begun c = begins c.args.self.now c.self.inside.kernel c.progress-p.result c.requires.sound c.requires.whole c.requires.going (ap (λ (u : Tasks). u.kernel) c.self.view_is) c.progress-p.ensures.progress
+begun c = begins c.self.inside.kernel c.progress-p.result c.requires.sound c.requires.whole c.requires.going (ap (λ (u : Tasks). u.kernel) c.self.view_is) c.progress-p.ensures.progress
 
 -- the machine that it comes to
 abbrev machine_in : After-try_on-tried → Machine
@@ -21,9 +21,8 @@ machine_in c = whole c.try_on-tried.new.k c.try_on-tried.new.p
 
 come : (c : After-try_on-tried) → HasCome c.args.n c.args.self.now (machine_in c) c.try_on-tried.result
 come c =
-    tried_on c.args.n c.args.self.now c.self.inside.kernel c.progress-p.result c.saturating_sub-left.result (machine_in c) c.try_on-tried.result c.requires.sound c.requires.whole c.requires.going
-    (ap (λ (u : Tasks). u.kernel) c.self.view_is)
-    c.progress-p.ensures.progress c.requires.steps c.saturating_sub-left.ensures c.try_on-tried.ensures.tried
+    tried_on c.args.n c.self.inside.kernel c.progress-p.result c.saturating_sub-left.result (machine_in c) c.try_on-tried.result c.requires.sound c.requires.whole c.requires.going
+    (ap (λ (u : Tasks). u.kernel) c.self.view_is) c.progress-p.ensures.progress c.requires.steps c.saturating_sub-left.ensures c.try_on-tried.ensures.tried
 
 -- the tasks with what the running one came to
 abbrev behind : After-keep → Tasks
@@ -34,6 +33,10 @@ behind c = record (value_of c.self.inside) {
   pages = c.try_on-tried.new.p.pages;
 }
 
+-- what the plays tell of the task of this number
+abbrev told_in : After-keep → ℕ → List Told
+told_in c k = tried_told k c.try_on-tried.result.line c.try_on-tried.result.end c.try_on-tried.new.p.steps c.try_on-tried.new.p.crossings
+
 abbrev came : (c : After-keep) → HasCome c.args.n c.args.self.now (whole c.try_on-tried.new.k c.try_on-tried.new.p) c.try_on-tried.result
 came c = come (goal.at.After-keep c).After-try_on-tried
 
@@ -43,6 +46,17 @@ kept c =
     (whole c.try_on-tried.new.k c.try_on-tried.new.p)
     c.try_on-tried.result.end c.try_on-tried.new.p.pages c.self.view_is refl c.stub_in-self-inside.ensures.value c.from.ensures c.index_mut.ensures.value (came c).here
     (c.keep.ensures.kept c.args.self.now) refl
+
+-- so many plays were made, whether the task changes behind them or not
+played : (c : After-keep) (changes : Bool) → c.try_on-tried.result.changes ≡ changes
+    → HasPlayed c.args.n c.args.self.now (finished changes (behind c)) (told_in c c.self.inside.running) c.try_on-tried.result.count
+played c changes is =
+    let t = c.args.self.now in
+    let r = c.try_on-tried.result in
+    let v = kept_tasks t (came c).task (whole c.try_on-tried.new.k c.try_on-tried.new.p) r.end in
+    subst (λ z. HasPlayed c.args.n t (finished changes z) (told_in c c.self.inside.running) r.count) (sym (kept c))
+    (subst (λ k. HasPlayed c.args.n t (finished changes v) (told_in c k) r.count) (sym (ap (λ (u : Tasks). u.running) c.self.view_is))
+    (subst (λ f. HasPlayed c.args.n t (finished f v) (told_in c t.running) r.count) is (came c).all.played))
 
 pub try_on-tried-requires-clause-ready : goal.try_on-tried-requires-clause-ready
 try_on-tried-requires-clause-ready c = (begun (goal.at.try_on-tried-requires-clause-ready c).After-progress-p).ready
@@ -59,7 +73,7 @@ keep-requires c = record { room = omega (arith, (come (goal.at.keep-requires c).
 pub change-requires-clause-sound : goal.change-requires-clause-sound
 change-requires-clause-sound c =
     let left = (goal.at.change-requires-clause-sound c).After-keep in
-    subst AreSound (sym (kept left)) (came left).all.sound
+    rw (kept left) (came left).all.sound
 
 pub change-requires-clause-free : goal.change-requires-clause-free
 change-requires-clause-free c =
@@ -67,16 +81,7 @@ change-requires-clause-free c =
     subst IsFree (sym (kept left)) ((came left).all.free c.if-tried.true)
 
 pub returns-then-tried-clause-played : goal.returns-then-tried-clause-played
-returns-then-tried-clause-played c =
-    let left = (goal.at.returns-then-tried-clause-played c).After-keep in
-    let t = c.args.self.now in
-    let r = c.try_on-tried.result in
-    let p = c.try_on-tried.new.p in
-    let all = (came left).all in
-    let tells : ℕ → List Told = λ k. tried_told k r.line r.end p.steps p.crossings in
-    let done = subst (λ f. HasPlayed c.args.n t (finished f (kept_tasks t (came left).task (whole c.try_on-tried.new.k p) r.end)) (tells t.running) r.count) c.if-tried.true all.played in
-    subst (λ k. HasPlayed c.args.n t c.change.new.self (tells k) r.count) (sym (ap (λ (u : Tasks). u.running) c.self.view_is))
-    (subst (λ z. HasPlayed c.args.n t z (tells t.running) r.count) (sym (c.change.ensures.changed ∙ ap changed_tasks (kept left))) done)
+returns-then-tried-clause-played c = rw c.change.ensures.changed (played (goal.at.returns-then-tried-clause-played c).After-keep true c.if-tried.true)
 
 pub returns-then-tried-clause-quantum : goal.returns-then-tried-clause-quantum
 returns-then-tried-clause-quantum c =
@@ -87,19 +92,10 @@ returns-then-tried-clause-quantum c =
 pub returns-else-tried-clause-sound : goal.returns-else-tried-clause-sound
 returns-else-tried-clause-sound c =
     let left = (goal.at.returns-else-tried-clause-sound c).After-keep in
-    subst AreSound (sym (kept left)) (came left).all.sound
+    rw (kept left) (came left).all.sound
 
 pub returns-else-tried-clause-played : goal.returns-else-tried-clause-played
-returns-else-tried-clause-played c =
-    let left = (goal.at.returns-else-tried-clause-played c).After-keep in
-    let t = c.args.self.now in
-    let r = c.try_on-tried.result in
-    let p = c.try_on-tried.new.p in
-    let all = (came left).all in
-    let tells : ℕ → List Told = λ k. tried_told k r.line r.end p.steps p.crossings in
-    let done = subst (λ f. HasPlayed c.args.n t (finished f (kept_tasks t (came left).task (whole c.try_on-tried.new.k p) r.end)) (tells t.running) r.count) c.if-tried.false all.played in
-    subst (λ z. HasPlayed c.args.n t z (tells c.self.inside.running) r.count) (sym (kept left))
-    (subst (λ k. HasPlayed c.args.n t (kept_tasks t (came left).task (whole c.try_on-tried.new.k p) r.end) (tells k) r.count) (sym (ap (λ (u : Tasks). u.running) c.self.view_is)) done)
+returns-else-tried-clause-played c = played (goal.at.returns-else-tried-clause-played c).After-keep false c.if-tried.false
 
 pub returns-else-tried-clause-quantum : goal.returns-else-tried-clause-quantum
 returns-else-tried-clause-quantum c = (came (goal.at.returns-else-tried-clause-quantum c).After-keep).all.quantum

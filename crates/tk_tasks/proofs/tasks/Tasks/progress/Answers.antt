@@ -15,9 +15,7 @@ overflow_sub-result c =
     let all : s.tasks.items ≡ t.tasks = ap (λ (u : Tasks). u.tasks) seen in
     let is : x ≡ slice_index_or t.tasks t.running x = c.index-task.ensures ∙ ap (λ l. slice_index_or l c.from.result x) all ∙ ap (λ i. slice_index_or t.tasks i x) at in
     let bounded = (c.requires.sound.each t.running x (get_at t.tasks t.running x c.requires.sound.one_runs is)).sound.bounded in
-    let since = bounded.moves.since in
-    let longest = bounded.moves.longest in
-    omega arith
+    omega (arith, bounded.moves.since, bounded.moves.longest)
 
 pub arrivals_of_others-requires-clause-steps : goal.arrivals_of_others-requires-clause-steps
 arrivals_of_others-requires-clause-steps c = λ i task there.
@@ -40,5 +38,6 @@ returns c =
           let runs : s.running ≡ t.running = ap (λ (u : Tasks). u.running) seen in
           let found : slice_get c.deref.result.now s.running ≡ Some task = ap (λ l. slice_get l s.running) listed ∙ ap (slice_get t.tasks) runs ∙ here in
           let others : c.arrivals_of_others.result ≡ others_of t task = c.arrivals_of_others.ensures.value task found ∙ others_are t task c.deref.result.now listed in
-          progress_is t task x c.owed_of.result c.arrivals_of_others.result s.pages c.requires.sound here going same (ap (λ (u : Tasks). u.pages) seen) (c.owed_of.ensures.value ∙ ap (owed_of x.owed) (ap (λ (u : Tasks). u.stub) seen)) others;
+          progress_is task x c.owed_of.result c.arrivals_of_others.result s.pages c.requires.sound here going same (ap (λ (u : Tasks). u.pages) seen)
+          (c.owed_of.ensures.value ∙ ap (owed_of x.owed) (ap (λ (u : Tasks). u.stub) seen)) others;
     }

@@ -1,2 +1,0 @@
--- Micro-operations, and what they stand for.
-pub mod MicroOps

@@ -1,2 +1,0 @@
--- What follows of gathered texts.
-pub mod Gathered

@@ -1,2 +1,0 @@
--- How lines are gathered.
-pub mod Gathering

@@ -1,2 +1,0 @@
--- The pieces of printed lines.
-pub mod Pieces
