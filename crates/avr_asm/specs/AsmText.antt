@@ -1,5 +1,5 @@
 -- What is wrong with a text, and which words a text without a fault has.
-use Rattle.std.specs.Prelude.{◌≡◌, ℕ, ◌+◌, ◌≤◌, List, [], ◌∷◌, length, slice_get, Option, Some, None}
+use Rattle.std.specs.Prelude.{◌≡◌, ℕ, ◌+◌, ◌≤◌, List, [], ◌∷◌, length, slice_get, codes, Option, Some, None}
 use Rattle.std.specs.Option.{option_or}
 use Rattle.std.specs.Result.{IsOkAnd}
 use Rattle.text_lines.specs.Lines.{lines_of}
@@ -9,6 +9,7 @@ use Rattle.avr_isa.specs.Encoding.{IsDecoded}
 use Rattle.avr_isa.specs.Image.{word}
 use Rattle.avr_isa.specs.Instruction.{size_of}
 use Rattle.avr_asm.specs.declared.fault.AsmFault.{AsmFault}
+use Rattle.avr_asm.specs.declared.fault.AsmFault.TheVariants as faults
 use Rattle.avr_asm.specs.declared.fault.AsmError.{AsmError}
 use Rattle.avr_asm.specs.declared.fault.AsmError.TheVariants.{Bad, NoMemory}
 use Rattle.avr_asm.specs.declared.statement.Statement.{Statement}
@@ -54,3 +55,13 @@ AsmText text words = AreLines (labels_of text) words start (lines_of text)
 abbrev pub IsRefusal : (text : List ℕ) → AsmError → Type 0
 IsRefusal text (Bad line fault) = fault_of text ≡ Some (line, fault)
 IsRefusal text NoMemory = Unit {0}
+
+-- the word by which a fault is told
+abbrev pub asm_word : AsmFault → List ℕ
+asm_word faults.Form = codes "form"
+asm_word faults.Mnemonic = codes "mnemonic"
+asm_word faults.Range = codes "range"
+asm_word faults.Twice = codes "twice"
+asm_word faults.TooLarge = codes "size"
+asm_word faults.Label = codes "label"
+asm_word faults.Reach = codes "reach"

@@ -1,4 +1,6 @@
 //! What can be wrong with a source.
+ghost use Rattle.std.specs.Prelude.{◌≡◌, ◌≤◌, length};
+ghost use Rattle.avr_asm.specs.AsmText.{asm_word};
 
 use thiserror::Error;
 
@@ -26,6 +28,24 @@ pub enum AsmFault {
     /// The target is too far for a relative instruction.
     #[error("reach")]
     Reach,
+}
+
+impl AsmFault {
+    /// The word by which it is told.
+    pub fn word(self) -> &'static [u8]
+        ensures word { result.now ≡ asm_word self }
+        ensures short { length result.now ≤ 8 }
+    {
+        match self {
+            AsmFault::Form => b"form",
+            AsmFault::Mnemonic => b"mnemonic",
+            AsmFault::Range => b"range",
+            AsmFault::Twice => b"twice",
+            AsmFault::TooLarge => b"size",
+            AsmFault::Label => b"label",
+            AsmFault::Reach => b"reach",
+        }
+    }
 }
 
 /// Why a source was not assembled.

@@ -22,7 +22,7 @@ use Rattle.avr_exec.proofs.OtherCounter.{loaded-changed, stored-changed, stored-
 
 -- it asks the same at another pc and with another SP
 pub ask_of_straight : (form : Form) (cpu : Cpu) (p : ℕ) (s : ℕ → ℕ) → is_straight form ≡ true → ask_of form (changed cpu p s) ≡ ask_of form cpu
-unfolding ask_of is_straight
+unfolding ask_of is_straight is_transfer
 ask_of_straight (Pop d) cpu p s h = absurd (false≢true h)
 ask_of_straight (Push r) cpu p s h = absurd (false≢true h)
 ask_of_straight (Rcall k) cpu p s h = absurd (false≢true h)
@@ -34,7 +34,7 @@ ask_of_straight _ cpu p s h = refl
 
 finish_of-straight : (form : Form) (cpu : Cpu) (p : ℕ) (s : ℕ → ℕ) (n m : ℕ) (answer : Answer) → is_straight form ≡ true
     → finish_of form (changed cpu p s) m answer ≡ changed (finish_of form cpu n answer) (wrapping_sum p 1) s
-unfolding finish_of is_straight
+unfolding finish_of is_straight is_transfer
 finish_of-straight Nop cpu p s n m answer h = refl
 finish_of-straight (Movw d r) cpu p s n m answer h = refl
 finish_of-straight (Muls d r) cpu p s n m answer h = refl

@@ -1,8 +1,8 @@
 -- Serves proofs: words in which two executions are compared: over two spaces, and at two places of the program.
 use Rattle.std.specs.Prelude.{ℕ, Bool, true, false, not, ◌==◌, ◌||◌}
 use Rattle.avr_isa.specs.declared.form.Form.{Form}
-use Rattle.avr_isa.specs.declared.form.Form.TheVariants.{Nop, Movw, Muls, Product, Two, Cpse, Imm, Word, One, Lpm0, Elpm0, Lpm, Elpm, InIo, OutIo, Cbi, Sbic, Sbi, Sbis, Bld, Bst, Sbrc, Sbrs, Bset}
-use Rattle.avr_isa.specs.declared.form.Form.TheVariants.{Bclr, Brbs, Brbc, Rjmp, Rcall, Jmp, Call, Ijmp, Icall, Ret, Reti, Sleep, Break, Wdr, Spm}
+use Rattle.avr_isa.specs.declared.form.Form.TheVariants.{Cpse, LoadOff, StoreOff, LoadAt, StoreAt, Lds, Sts, Pop, Push, InIo, OutIo, Sbic, Sbis, Sbrc, Sbrs, Brbs, Brbc, Rjmp, Rcall, Jmp, Call, Ijmp, Icall, Ret}
+use Rattle.avr_isa.specs.declared.form.Form.TheVariants.{Reti, Sleep, Spm}
 use Rattle.avr_exec.specs.declared.cpu.Cpu.{Cpu}
 use Rattle.avr_isa.specs.IoTable.{io_address}
 use Rattle.avr_exec.specs.Spaces.{Outcome, Went, Stopped}
@@ -59,26 +59,14 @@ is_stack_pointer a = a == 0x5D || a == 0x5E
 -- the instructions that neither transfer control nor may reach SP: all but transfers, PUSH and POP, loads
 -- and stores at data addresses, and IN and OUT of SPL and SPH
 unfoldable pub is_straight : Form → Bool
-is_straight Nop = true
-is_straight (Movw d r) = true
-is_straight (Muls d r) = true
-is_straight (Product op d r) = true
-is_straight (Two op d r) = true
-is_straight (Imm op d k) = true
-is_straight (Word op p k) = true
-is_straight (One op d) = true
-is_straight Lpm0 = true
-is_straight Elpm0 = true
-is_straight (Lpm d inc) = true
-is_straight (Elpm d inc) = true
+is_straight (LoadOff d base q) = false
+is_straight (StoreOff base q r) = false
+is_straight (LoadAt d pointer) = false
+is_straight (StoreAt pointer r) = false
+is_straight (Lds d a) = false
+is_straight (Sts a r) = false
+is_straight (Pop d) = false
+is_straight (Push r) = false
 is_straight (InIo d a) = not (is_stack_pointer (io_address a))
 is_straight (OutIo a r) = not (is_stack_pointer (io_address a))
-is_straight (Cbi a b) = true
-is_straight (Sbi a b) = true
-is_straight (Bld d b) = true
-is_straight (Bst d b) = true
-is_straight (Bset s) = true
-is_straight (Bclr s) = true
-is_straight Break = true
-is_straight Wdr = true
-is_straight _ = false
+is_straight form = not (is_transfer form)

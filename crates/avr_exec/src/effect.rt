@@ -128,8 +128,7 @@ pub(crate) fn compute(form: &Form, cpu: &mut Cpu, pc: u16) -> u16
         }
         Form::Bset(s) => cpu.sreg = with_bit(cpu.sreg, s.get(), true),
         Form::Bclr(s) => cpu.sreg = with_bit(cpu.sreg, s.get(), false),
-        Form::Nop | Form::Break | Form::Wdr => {}
-        _ => unreachable!(),
+        _ => {}
     }
     advance(cpu, pc, 1)
 }

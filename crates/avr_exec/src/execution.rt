@@ -106,10 +106,6 @@ fn exec_seldom<B: Bus>(
         Form::Rcall(_) | Form::Call(_) | Form::Icall | Form::Ret | Form::Reti => {
             reach(form, cpu, bus, pc)
         }
-        Form::Nop | Form::Muls(..) | Form::Product(..) | Form::Bld(..) | Form::Bst(..) => {
-            Ok(compute(form, cpu, pc))
-        }
-        Form::Bset(_) | Form::Bclr(_) | Form::Break | Form::Wdr => Ok(compute(form, cpu, pc)),
-        _ => unreachable!(),
+        _ => Ok(compute(form, cpu, pc)),
     }
 }

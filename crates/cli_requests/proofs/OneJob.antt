@@ -1,9 +1,9 @@
 -- What a text asks for is one thing.
 use Rattle.std.proofs.Common.{◌≡◌, ℕ, List, drop, arith, sym, ap, ap₂, ◌∙◌, subst}
-use Rattle.hex_image.specs.HexText.{HexText, hex_fault}
+use Rattle.hex_image.specs.HexText.{HexText, hex_fault, hex_word}
 use Rattle.hex_image.proofs.LawLemmas.{few_words, never_both, same_fault, same_image}
 use Rattle.hex_image.specs.declared.fault.HexFault.{HexFault}
-use Rattle.input_script.specs.Script.{Schedule, IsScript, script_fault}
+use Rattle.input_script.specs.Script.{Schedule, IsScript, script_fault, script_word}
 use Rattle.input_script.specs.declared.fault.ScriptFault.{ScriptFault}
 use Rattle.input_script.proofs.Judgement as scripts
 use Rattle.text_lines.proofs.FaultLaws as faults
@@ -14,12 +14,12 @@ use Rattle.cli_words.specs.declared.command.Command.TheVariants.{Run, Dump, Rest
 use Rattle.cli_words.specs.declared.command.RunOptions.{RunOptions}
 use Rattle.cli_words.specs.declared.command.TaskOptions.{TaskOptions}
 use Rattle.cli_words.specs.declared.job.Job.{Job}
-use Rattle.printed_text.specs.FaultyLines.{asm_word, dump_word, hex_word, script_word}
+use Rattle.flash_dump.specs.DumpLines.{dump_word}
 use Rattle.cli_words.specs.Printed.{bad_part}
 use Rattle.cli_requests.specs.Reading.{IsJudged, Bad, Good}
 use Rattle.cli_requests.specs.AsmCommand.{AsmAsks}
 use Rattle.cli_requests.specs.RunCommand.{RequestThen, RunAsks}
-use Rattle.avr_asm.specs.AsmText.{AsmText, fault_of}
+use Rattle.avr_asm.specs.AsmText.{AsmText, fault_of, asm_word}
 use Rattle.avr_asm.specs.declared.fault.AsmFault.{AsmFault}
 use Rattle.avr_asm.proofs.OneImage.{same_words}
 use Rattle.std.specs.Prelude.{Some, None}

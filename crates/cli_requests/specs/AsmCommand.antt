@@ -1,9 +1,9 @@
 -- The command `asm`: the HEX text of a source's image.
 use Rattle.std.specs.Prelude.{◌≡◌, ℕ, List, None, Some}
 use Rattle.hex_image.specs.Written.{written}
-use Rattle.avr_asm.specs.AsmText.{AsmText, fault_of}
+use Rattle.avr_asm.specs.AsmText.{AsmText, fault_of, asm_word}
 use Rattle.avr_asm.specs.declared.fault.AsmFault.{AsmFault}
-use Rattle.printed_text.specs.FaultyLines.{asm_part, asm_word}
+use Rattle.printed_text.specs.FaultyLines.{asm_part}
 use Rattle.cli_words.specs.declared.job.Job.{Job}
 use Rattle.cli_words.specs.declared.job.Job.TheVariants.{Write}
 use Rattle.cli_requests.specs.Reading.{IsJudged}

@@ -6,7 +6,8 @@ use Rattle.pool_check.specs.Verdicts.{IsVerdict}
 use Rattle.pool_check.specs.declared.checking.Verdict.{Verdict}
 use Rattle.pool_check.specs.declared.checking.Verdict.TheVariants.{Faithful, Form, Links}
 use Rattle.flash_dump.specs.declared.dump_line.DumpFault.{DumpFault}
-use Rattle.printed_text.specs.FaultyLines.{dump_part, dump_word}
+use Rattle.printed_text.specs.FaultyLines.{dump_part}
+use Rattle.flash_dump.specs.DumpLines.{dump_word}
 use Rattle.printed_text.specs.Verdicts.{verdict_text}
 use Rattle.cli_words.specs.declared.job.Job.{Job}
 use Rattle.cli_words.specs.declared.job.Job.TheVariants.{Print}

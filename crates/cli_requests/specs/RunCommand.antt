@@ -1,10 +1,10 @@
 -- The command `run`: what its text asks for.
 use Rattle.std.specs.Prelude.{◌≡◌, ℕ, List, drop, Some}
-use Rattle.hex_image.specs.HexText.{HexText, hex_fault}
+use Rattle.hex_image.specs.HexText.{HexText, hex_fault, hex_word}
 use Rattle.hex_image.specs.declared.fault.HexFault.{HexFault}
-use Rattle.input_script.specs.Script.{Schedule, IsScript, script_fault}
+use Rattle.input_script.specs.Script.{Schedule, IsScript, script_fault, script_word}
 use Rattle.input_script.specs.declared.fault.ScriptFault.{ScriptFault}
-use Rattle.printed_text.specs.FaultyLines.{hex_part, hex_word, script_part, script_word}
+use Rattle.printed_text.specs.FaultyLines.{hex_part, script_part}
 use Rattle.cli_words.specs.declared.command.RunOptions.{RunOptions}
 use Rattle.cli_words.specs.declared.job.Job.{Job}
 use Rattle.cli_words.specs.declared.job.Job.TheVariants.{Run}

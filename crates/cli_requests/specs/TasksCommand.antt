@@ -1,8 +1,8 @@
 -- The command `tasks`: what its text asks for.
 use Rattle.std.specs.Prelude.{◌≡◌, ℕ, List, Some}
-use Rattle.input_script.specs.Script.{Schedule}
+use Rattle.input_script.specs.Script.{Schedule, script_word}
 use Rattle.input_script.specs.declared.fault.ScriptFault.{ScriptFault}
-use Rattle.printed_text.specs.FaultyLines.{bad_image_text, script_part, script_word}
+use Rattle.printed_text.specs.FaultyLines.{bad_image_text, script_part}
 use Rattle.task_input.specs.Images.{IsFirstMisplaced, IsMisplaced}
 use Rattle.task_input.specs.Scripts.{Schedules, scripts_fault}
 use Rattle.cli_words.specs.declared.command.TaskOptions.{TaskOptions}

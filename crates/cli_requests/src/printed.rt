@@ -1,6 +1,8 @@
 //! The jobs that print the line of one command.
 ghost use Rattle.std.specs.Prelude.{◌≡◌};
-ghost use Rattle.printed_text.specs.FaultyLines.{asm_part, asm_word, dump_part, dump_word};
+ghost use Rattle.printed_text.specs.FaultyLines.{asm_part, dump_part};
+ghost use Rattle.avr_asm.specs.AsmText.{asm_word};
+ghost use Rattle.flash_dump.specs.DumpLines.{dump_word};
 ghost use Rattle.cli_words.specs.Printed.{bad_part};
 ghost use Rattle.cli_requests.specs.CheckCommand.{verdict_line};
 ghost use Rattle.cli_requests.specs.TasksCommand.{bad_image};

@@ -1,6 +1,8 @@
 //! The jobs that print one line.
 ghost use Rattle.std.specs.Prelude.{◌≡◌};
-ghost use Rattle.printed_text.specs.FaultyLines.{hex_part, hex_word, script_part, script_word};
+ghost use Rattle.printed_text.specs.FaultyLines.{hex_part, script_part};
+ghost use Rattle.hex_image.specs.HexText.{hex_word};
+ghost use Rattle.input_script.specs.Script.{script_word};
 ghost use Rattle.cli_words.specs.Printed.{bad_part, no_memory, read_fault, too_long, usage};
 
 use crate::job::Job;

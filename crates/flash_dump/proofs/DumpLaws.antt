@@ -1,6 +1,6 @@
 -- A dump that is read line by line.
 use Rattle.std.proofs.Common.{◌≡◌, ℕ, ◌+◌, ◌*◌, ◌<◌, ◌≤◌, false, cond, eqb, true, List, ◌∷◌, length, arith, refl, sym, ap, ◌∙◌}
-use Rattle.std.specs.Prelude.{nat_le, nat_lt, Some, None}
+use Rattle.std.specs.Prelude.{nat_le, nat_lt, None}
 use Rattle.std.proofs.lemmas.Bool.{and_parts, eqb-true}
 use Rattle.std.proofs.lemmas.Bool.Decides.{nat_tests}
 use Rattle.std.proofs.lemmas.Grind.{same_number_lists}
@@ -13,9 +13,9 @@ use Rattle.flash_words.specs.Operations.{programmed_page}
 use Rattle.flash_words.proofs.PageLaws.{page_word, length-page_of, length-set_page, page_other}
 use Rattle.text_lines.specs.Lines.{lines_of}
 use Rattle.text_lines.specs.Faults.{after_lines, first_fault}
-use Rattle.text_lines.proofs.FaultLaws.{fault_behind}
-use Rattle.flash_dump.specs.declared.dump_line.DumpFault.TheVariants.{Order}
-use Rattle.flash_dump.specs.DumpLines.{fault_at, has_page, next_page, page_in, with_line, word_digits, words_in}
+use Rattle.text_lines.proofs.FaultLaws.{fault_behind, not_found}
+use Rattle.flash_dump.specs.declared.dump_line.DumpFault.TheVariants.{Order, Range}
+use Rattle.flash_dump.specs.DumpLines.{fault_at, has_page, next_page, page_fault, page_in, with_line, word_digits, words_in}
 use Rattle.flash_dump.specs.Dumps.{IsOpen, IsReadTo, IsTaken, erased}
 
 length-words_in : (line : List ℕ) → length (words_in line) ≡ 128
@@ -28,20 +28,22 @@ page_size line has = eqb-true (length line) 521 (and_parts _ _ (and_parts _ _ (a
 pub page_some : (line : List ℕ) → has_page line ≡ true → eqb (length line) 0 ≡ false
 page_some line has = let long = page_size line has in grind (arith, nat_tests)
 
--- has a fault, where the page may not follow
-pub page_late : (least : ℕ) (line : List ℕ) → has_page line ≡ true → page_in line < least → fault_at least line ≡ Some Order
-page_late least line has before =
-    let some = page_some line has in
-    let late : nat_lt (page_in line) least ≡ true = grind (arith, nat_tests) in
-    rw (some, has, late) refl
+-- and has the fault of its page's number
+pub fault_of_page : (least : ℕ) (line : List ℕ) → has_page line ≡ true → fault_at least line ≡ page_fault least (page_in line)
+fault_of_page least line has = let some = page_some line has in rw (some, has) refl
 
--- and has none, where the page may follow and is one of flash
+-- a page's number without a fault
+pub may_follow : (least page : ℕ) → page_fault least page ≡ None → (least ≤ page) × (page < 512)
+may_follow least page none =
+    let late = not_found (nat_lt page least) Order _ none in
+    let beyond = not_found (nat_le 512 page) Range None late.1 in
+    ((let test = late.0 in grind (arith, nat_tests)), (let test = beyond.0 in grind (arith, nat_tests)))
+
 pub page_sound : (least : ℕ) (line : List ℕ) → has_page line ≡ true → least ≤ page_in line → page_in line < 512 → fault_at least line ≡ None
 page_sound least line has from below =
-    let some = page_some line has in
     let ordered : nat_lt (page_in line) least ≡ false = grind (arith, nat_tests) in
     let inside : nat_le 512 (page_in line) ≡ false = grind (arith, nat_tests) in
-    rw (some, has, ordered, inside) refl
+    fault_of_page least line has ∙ rw (ordered, inside) refl
 
 -- a line with a page
 pub taken_page : (line : List ℕ) (least page : ℕ) (words : List ℕ) (old new : Memory) → has_page line ≡ true → page ≡ page_in line → words ≡ words_in line → least ≤ page → page < 512

@@ -1,17 +1,18 @@
 -- What is said line by line of a dump is what the format says of all its lines at once.
-use Rattle.std.proofs.Common.{◌≡◌, ◌≢◌, ℕ, zero, suc, ◌+◌, ◌<◌, ◌≤◌, ◌==◌, Bool, true, false, not, cond, List, [], ◌∷◌, length, arith, refl, ap, ◌∙◌, inl, inr}
-use Rattle.std.specs.Prelude.{All, AllPairs, nat_le, nat_lt, Some, None}
-use Rattle.std.proofs.lemmas.Bool.{false_from_ne_true, not-false}
+use Rattle.std.proofs.Common.{◌≡◌, ℕ, zero, suc, ◌+◌, ◌<◌, ◌≤◌, ◌==◌, Bool, true, false, cond, List, [], ◌∷◌, length, arith, refl, sym, ap, ◌∙◌, inl, inr}
+use Rattle.std.specs.Prelude.{◌⊎◌, All, AllPairs, Option, Some, None}
+use Rattle.std.proofs.lemmas.Bool.{false_from_ne_true, false≢true}
 use Rattle.std.proofs.lemmas.Bool.Decides.{nat_tests}
 use Rattle.std.proofs.lemmas.List.Elements.{All-cons, All-head, All-nil, All-tail}
 use Rattle.text_lines.specs.Lines.{lines_of}
 use Rattle.text_lines.specs.Faults.{after_lines, first_fault}
-use Rattle.text_lines.proofs.FaultLaws.{fault_behind, fault_here, first_at, found_is, none_parts, not_found}
+use Rattle.text_lines.proofs.FaultLaws.{fault_behind, fault_here, first_at, none_parts}
 use Rattle.flash_dump.specs.declared.dump_line.DumpFault.{DumpFault}
-use Rattle.flash_dump.specs.declared.dump_line.DumpFault.TheVariants.{Form, Order, Range}
-use Rattle.flash_dump.specs.DumpLines.{fault_at, has_page, next_page, page_in}
+use Rattle.flash_dump.specs.declared.dump_line.DumpFault.TheVariants.{Form}
+use Rattle.flash_dump.specs.DumpLines.{fault_at, has_page, next_page, page_fault, page_in}
 use Rattle.flash_dump.specs.Dumps.{dump_fault}
 use Rattle.flash_dump.specs.GrammarLaw.{AreSound, HasPage, IsFaulty, IsForm, IsWrong, pages_of}
+use Rattle.flash_dump.proofs.DumpLaws.{fault_of_page, may_follow, page_sound}
 use Rattle.flash_dump.proofs.LineAgreement.{form_of, page_of_form}
 
 -- ---- pages that ascend
@@ -56,20 +57,26 @@ record IsNext (least : ℕ) (line : List ℕ) : Type 0 where
   from : least ≤ page_in line
   inside : page_in line < 512
 
+-- the form of a line by its fault, and the fault of its page's number
+by_form : (least byte : ℕ) (rest : List ℕ) (found : Option DumpFault) → fault_at least (byte ∷ rest) ≡ found
+    → ((¬ HasPage (byte ∷ rest)) × (found ≡ Some Form)) ⊎ (HasPage (byte ∷ rest) × (page_fault least (page_in (byte ∷ rest)) ≡ found))
+by_form least byte rest found is =
+    let line = byte ∷ rest in
+    let Ways : Bool → Type 0 = λ has. has_page line ≡ has → cond has (page_fault least (page_in line)) (Some Form) ≡ found
+    → ((¬ HasPage line) × (found ≡ Some Form)) ⊎ (HasPage line × (page_fault least (page_in line) ≡ found)) in
+    (elim (has_page line) as Ways [
+      | true ↦ λ has fault. inr (form_of line has, fault)
+      | false ↦ λ none fault. inl (λ form. false≢true (sym none ∙ page_of_form line form), sym fault)
+    ]) refl (rw (not_empty byte rest) at is)
+
 next_from : (least byte : ℕ) (rest : List ℕ) → fault_at least (byte ∷ rest) ≡ None → IsNext least (byte ∷ rest)
-next_from least byte rest none =
-    let page = page_in (byte ∷ rest) in
-    let has = not_found (not (has_page (byte ∷ rest))) Form _ (rw (not_empty byte rest) at none) in
-    let late = not_found (nat_lt page least) Order _ has.1 in
-    let beyond = not_found (nat_le 512 page) Range None late.1 in
-    record { form = form_of (byte ∷ rest) (not-false _ has.0); from = (let test = late.0 in grind (arith, nat_tests)); inside = (let test = beyond.0 in grind (arith, nat_tests)) }
+next_from least byte rest none = elim (by_form least byte rest None none) [
+  | inl formless ↦ absurd (let e = formless.1 in cc)
+  | inr page ↦ let follows = may_follow least (page_in (byte ∷ rest)) page.1 in record { form = page.0; from = follows.0; inside = follows.1 }
+]
 
 next_to : (least byte : ℕ) (rest : List ℕ) → IsNext least (byte ∷ rest) → fault_at least (byte ∷ rest) ≡ None
-next_to least byte rest next =
-    let line = byte ∷ rest in
-    let late : nat_lt (page_in line) least ≡ false = (let low = next.from in grind (arith, nat_tests)) in
-    let beyond : nat_le 512 (page_in line) ≡ false = (let low = next.inside in grind (arith, nat_tests)) in
-    rw (not_empty byte rest, page_of_form line next.form, late, beyond) refl
+next_to least byte rest next = page_sound least (byte ∷ rest) (page_of_form (byte ∷ rest) next.form) next.from next.inside
 
 pages_next : (byte : ℕ) (rest : List ℕ) (lines : List (List ℕ)) → pages_of ((byte ∷ rest) ∷ lines) ≡ page_in (byte ∷ rest) ∷ pages_of lines
 pages_next byte rest lines = ap (λ b. cond b (pages_of lines) (page_in (byte ∷ rest) ∷ pages_of lines)) (not_empty byte rest)
@@ -124,36 +131,19 @@ dump_to text (forms, ascend) = lines_to 1 0 (lines_of text) (record { forms = fo
 
 -- ---- a fault
 
-wrong_by : (least : ℕ) (line : List ℕ) (fault : DumpFault) (has late beyond : Bool) → line ≢ [] → has_page line ≡ has → nat_lt (page_in line) least ≡ late → nat_le 512 (page_in line) ≡ beyond
-    → cond (not has) (Some Form) (cond late (Some Order) (cond beyond (Some Range) None)) ≡ Some fault → IsWrong least line fault
-wrong_by least line fault false late beyond some a b c found =
-    found_is (IsWrong least line) Form fault found (some, λ form. let has : has_page line ≡ true = page_of_form line form in absurd (cc))
-wrong_by least line fault true true beyond some a b c found = found_is (IsWrong least line) Order fault found (form_of line a, grind (arith, nat_tests))
-wrong_by least line fault true false true some a b c found = found_is (IsWrong least line) Range fault found (form_of line a, grind (arith, nat_tests), grind (arith, nat_tests))
-wrong_by least line fault true false false some a b c found = absurd (cc)
-
 wrong_from : (least : ℕ) (line : List ℕ) (fault : DumpFault) → fault_at least line ≡ Some fault → IsWrong least line fault
 wrong_from least [] fault found = absurd (cc)
-wrong_from least (byte ∷ rest) fault found = wrong_by least (byte ∷ rest) fault _ _ _ (λ e. cc e) refl refl refl (rw (not_empty byte rest) at found)
-
--- a line with a page isn't empty
-some_line : (least : ℕ) (fault : DumpFault) → IsWrong least [] fault → ⊥
-some_line least Form wrong = wrong.0 refl
-some_line least Order wrong = let has = page_of_form [] wrong.0 in absurd (cc)
-some_line least Range wrong = let has = page_of_form [] wrong.0 in absurd (cc)
+wrong_from least (byte ∷ rest) fault found = elim (by_form least byte rest (Some fault) found) [
+  | inl formless ↦ inl (λ e. cc e, formless.0, cc)
+  | inr page ↦ inr page
+]
 
 wrong_to : (least : ℕ) (line : List ℕ) (fault : DumpFault) → IsWrong least line fault → fault_at least line ≡ Some fault
-wrong_to least [] fault wrong = absurd (some_line least fault wrong)
-wrong_to least (byte ∷ rest) Form (some, without) =
+wrong_to least line fault (inr (form, is)) = fault_of_page least line (page_of_form line form) ∙ is
+wrong_to least [] fault (inl (some, without, is)) = absurd (some refl)
+wrong_to least (byte ∷ rest) fault (inl (some, without, is)) =
     let has : has_page (byte ∷ rest) ≡ false = false_from_ne_true (has_page (byte ∷ rest)) (λ is. without (form_of (byte ∷ rest) is)) in
-    rw (not_empty byte rest, has) refl
-wrong_to least (byte ∷ rest) Order (form, before) =
-    let late : nat_lt (page_in (byte ∷ rest)) least ≡ true = grind (arith, nat_tests) in
-    rw (not_empty byte rest, page_of_form (byte ∷ rest) form, late) refl
-wrong_to least (byte ∷ rest) Range (form, low, above) =
-    let late : nat_lt (page_in (byte ∷ rest)) least ≡ false = grind (arith, nat_tests) in
-    let beyond : nat_le 512 (page_in (byte ∷ rest)) ≡ true = grind (arith, nat_tests) in
-    rw (not_empty byte rest, page_of_form (byte ∷ rest) form, late, beyond) refl
+    rw (not_empty byte rest, has, is) refl
 
 pub faulty_from : (text : List ℕ) (number : ℕ) (fault : DumpFault) → dump_fault text ≡ Some (number, fault) → IsFaulty (lines_of text) number fault
 faulty_from text number fault found =

@@ -1,6 +1,6 @@
 -- One line of a dump, in this project's own form: `page `, the page's number in three decimal digits, a space, and its
 -- 128 words in four hexadecimal digits each, of either case, the high one first (docs/FORMATS.md).
-use Rattle.std.specs.Prelude.{◌≡◌, ℕ, ◌+◌, ◌*◌, ◌==◌, ◌&&◌, Bool, true, not, nat_eq, nat_lt, nat_le, if◌then◌else◌, List, length, map, take, drop, slice_index, codes, Option, Some, None}
+use Rattle.std.specs.Prelude.{◌≡◌, ℕ, ◌+◌, ◌*◌, ◌==◌, ◌&&◌, Bool, true, nat_eq, nat_lt, nat_le, if◌then◌else◌, List, length, map, take, drop, slice_index, codes, Option, Some, None}
 use Rattle.std.specs.List.{list_all, range_with_len, starts_with}
 use Rattle.std.specs.Char.{is_digit}
 use Rattle.std.specs.Str.Parse.{digits_value}
@@ -37,18 +37,28 @@ next_page least line = if length line == 0 then least else page_in line + 1
 abbrev pub with_line : List ℕ → List ℕ → List ℕ
 with_line words line = if length line == 0 then words else set_page words (page_in line) (words_in line)
 
--- The first fault of a line, where the pages from one on may follow: none where it is empty, or its page is one of these
--- and one of flash.
+-- the first fault of a page's number, where the pages from one on may follow: none where it is one of these and one of flash
+abbrev pub page_fault : (least page : ℕ) → Option DumpFault
+page_fault least page =
+    if nat_lt page least then Some Order
+    else if nat_le page_count page then Some Range
+    else None
+
+-- the first fault of a line: none where it is empty, or has the form and a page whose number has none
 abbrev pub fault_at : ℕ → List ℕ → Option DumpFault
 fault_at least line =
     if length line == 0 then None
-    else if not (has_page line) then Some Form
-    else if nat_lt (page_in line) least then Some Order
-    else if nat_le page_count (page_in line) then Some Range
-    else None
+    else if has_page line then page_fault least (page_in line)
+    else Some Form
 
 -- Serves private functions: what was read of a line.
 pub record IsReadLine (line : List ℕ) (told : PageLine) : Type 0 where
   pub form : has_page line ≡ true
   pub page_is : told.page ≡ page_in line
   pub words_are : told.words ≡ words_in line
+
+-- the word by which a fault is told
+abbrev pub dump_word : DumpFault → List ℕ
+dump_word Form = codes "form"
+dump_word Order = codes "order"
+dump_word Range = codes "range"

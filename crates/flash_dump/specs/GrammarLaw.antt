@@ -1,13 +1,13 @@
 -- Serves the contract of `grammar`: the format of a dump over all lines at once, and that the functions of `DumpLines` and `Dumps`,
 -- which go line by line, say the same.
-use Rattle.std.specs.Prelude.{◌≡◌, ◌≢◌, ◌⊎◌, ◌↔◌, ℕ, ◌+◌, ◌<◌, ◌≤◌, ◌==◌, if◌then◌else◌, List, [], ◌∷◌, ◌++◌, length, codes, All, AllPairs, Some, None}
+use Rattle.std.specs.Prelude.{◌≡◌, ◌≢◌, ◌⊎◌, ◌↔◌, ℕ, ◌+◌, ◌<◌, ◌==◌, if◌then◌else◌, List, [], ◌∷◌, ◌++◌, length, codes, All, AllPairs, Some, None}
 use Rattle.std.specs.Str.Parse.{AllDigits}
 use Rattle.flash_words.specs.Pages.{page_count}
 use Rattle.text_lines.specs.Lines.{lines_of}
 use Rattle.text_lines.specs.Faults.{after_lines}
 use Rattle.flash_dump.specs.declared.dump_line.DumpFault.{DumpFault}
-use Rattle.flash_dump.specs.declared.dump_line.DumpFault.TheVariants.{Form, Order, Range}
-use Rattle.flash_dump.specs.DumpLines.{next_page, page_in}
+use Rattle.flash_dump.specs.declared.dump_line.DumpFault.TheVariants.{Form}
+use Rattle.flash_dump.specs.DumpLines.{next_page, page_fault, page_in}
 use Rattle.flash_dump.specs.Dumps.{dump_fault}
 
 -- a line with a page: `page `, three decimal digits, a space, and four hexadecimal digits, of either case, for each of 128 words
@@ -33,11 +33,9 @@ pages_of (line ∷ lines) = if length line == 0 then pages_of lines else page_in
 abbrev pub AreSound : List (List ℕ) → Type 0
 AreSound lines = All IsForm lines × AllPairs (λ page later. page < later) (pages_of lines)
 
--- the first fault of a line, behind lines where the pages from one on may follow
+-- the first fault of a line, behind lines where the pages from one on may follow: it has no form, or its page's number has the fault
 abbrev pub IsWrong : ℕ → List ℕ → DumpFault → Type 0
-IsWrong least line Form = (line ≢ []) × (¬ HasPage line)
-IsWrong least line Order = HasPage line × (page_in line < least)
-IsWrong least line Range = HasPage line × (least ≤ page_in line) × (page_count ≤ page_in line)
+IsWrong least line fault = ((line ≢ []) × (¬ HasPage line) × (fault ≡ Form)) ⊎ (HasPage line × (page_fault least (page_in line) ≡ Some fault))
 
 -- the lines before are those of a dump, and the line with this number, from 1, has this fault
 pub record IsFaulty (lines : List (List ℕ)) (number : ℕ) (fault : DumpFault) : Type 0 where

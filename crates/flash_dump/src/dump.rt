@@ -7,9 +7,9 @@ ghost use Rattle.flash_dump.specs.DumpLines.{fault_at};
 ghost use Rattle.flash_dump.specs.Dumps.{IsDump, IsOpen, IsTaken, erased as erased_words};
 ghost use Rattle.flash_dump.specs.DumpAnswers.{IsRefusal};
 
-use crate::dump_line::{DumpFault, page_line_in};
+use crate::dump_line::{DumpFault, page_fault, page_line_in};
 use base::NoMemory;
-use flash_model::{Flash, PAGES};
+use flash_model::Flash;
 use std::alloc::Global;
 use text_lines::first_line;
 
@@ -66,14 +66,13 @@ fn take_line(flash: &mut Flash, least: u16, line: &[u8]) -> Result<u16, DumpFaul
         Some(told) => told,
         None => return Err(DumpFault::Form),
     };
-    if told.page < least {
-        return Err(DumpFault::Order);
+    match page_fault(least, told.page) {
+        Some(fault) => Err(fault),
+        None => {
+            program(flash, told.page, &told.words);
+            Ok(told.page + 1)
+        }
     }
-    if told.page >= PAGES as u16 {
-        return Err(DumpFault::Range);
-    }
-    program(flash, told.page, &told.words);
-    Ok(told.page + 1)
 }
 
 /// A flash whose words are all erased.

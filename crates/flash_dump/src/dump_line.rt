@@ -1,10 +1,11 @@
 //! One line of a dump.
 
-ghost use Rattle.std.specs.Prelude.{◌≡◌, ◌<◌, false, nat_eq, length, drop, codes, MatchOption};
+ghost use Rattle.std.specs.Prelude.{◌≡◌, ◌<◌, ◌≤◌, false, nat_eq, length, drop, codes, MatchOption};
 ghost use Rattle.std.specs.List.{starts_with};
 ghost use Rattle.std.specs.Str.Parse.{digits_value, AllDigits};
-ghost use Rattle.flash_dump.specs.DumpLines.{has_page, IsReadLine, word_digits, words_in};
+ghost use Rattle.flash_dump.specs.DumpLines.{dump_word, has_page, IsReadLine, page_fault, word_digits, words_in};
 
+use flash_model::PAGES;
 use text_lines::value_of;
 use thiserror::Error;
 
@@ -20,6 +21,33 @@ pub enum DumpFault {
     /// Its page is above 511.
     #[error("range")]
     Range,
+}
+
+impl DumpFault {
+    /// The word by which it is told.
+    pub fn word(self) -> &'static [u8]
+        ensures word { result.now ≡ dump_word self }
+        ensures short { length result.now ≤ 8 }
+    {
+        match self {
+            DumpFault::Form => b"form",
+            DumpFault::Order => b"order",
+            DumpFault::Range => b"range",
+        }
+    }
+}
+
+/// The first fault of a page's number, where the pages from `least` on may follow.
+pub(crate) fn page_fault(least: u16, page: u16) -> Option<DumpFault>
+    ensures value { result ≡ page_fault least page }
+{
+    if page < least {
+        Some(DumpFault::Order)
+    } else if page >= PAGES as u16 {
+        Some(DumpFault::Range)
+    } else {
+        None
+    }
 }
 
 /// What a line tells.

@@ -1,5 +1,5 @@
 -- Which texts have an image, and what is wrong with the others.
-use Rattle.std.specs.Prelude.{◌≡◌, ◌≢◌, ℕ, ◌+◌, ◌*◌, ◌%◌, ◌==◌, nat_lt, Bool, false, not, ◌||◌, if◌then◌else◌, List, [], ◌∷◌, length, take, sum, slice_index, find, is_some, Option, Some, None}
+use Rattle.std.specs.Prelude.{◌≡◌, ◌≢◌, ℕ, ◌+◌, ◌*◌, ◌%◌, ◌==◌, nat_lt, Bool, false, not, ◌||◌, if◌then◌else◌, List, [], ◌∷◌, length, take, sum, slice_index, find, is_some, codes, Option, Some, None}
 use Rattle.std.specs.List.{concat, list_all, list_any, position_or_len}
 use Rattle.std.specs.Option.{option_or}
 use Rattle.hex.specs.Hex.{is_hex_digit}
@@ -56,3 +56,15 @@ pub record NeedsMemory (text : List ℕ) : Type 0 where
   pub count : ℕ
   pub sound : first_fault fault_at after_line 1 nothing (take count (lines_read text)) ≡ None
   pub some : (after_lines after_line nothing (take count (lines_read text))).cells ≢ []
+
+-- the word by which a fault is told
+abbrev pub hex_word : HexFault → List ℕ
+hex_word Start = codes "start"
+hex_word Digit = codes "digit"
+hex_word Length = codes "length"
+hex_word Checksum = codes "checksum"
+hex_word Kind = codes "kind"
+hex_word Wrap = codes "wrap"
+hex_word Twice = codes "twice"
+hex_word TooLarge = codes "size"
+hex_word NoEnd = codes "end"

@@ -1,4 +1,6 @@
 //! What can be wrong with a text.
+ghost use Rattle.std.specs.Prelude.{◌≡◌, ◌≤◌, length};
+ghost use Rattle.hex_image.specs.HexText.{hex_word};
 
 use thiserror::Error;
 
@@ -32,6 +34,26 @@ pub enum HexFault {
     /// The text ends without an end record. The line is then the number of lines plus one.
     #[error("end")]
     NoEnd,
+}
+
+impl HexFault {
+    /// The word by which it is told.
+    pub fn word(self) -> &'static [u8]
+        ensures word { result.now ≡ hex_word self }
+        ensures short { length result.now ≤ 8 }
+    {
+        match self {
+            HexFault::Start => b"start",
+            HexFault::Digit => b"digit",
+            HexFault::Length => b"length",
+            HexFault::Checksum => b"checksum",
+            HexFault::Kind => b"kind",
+            HexFault::Wrap => b"wrap",
+            HexFault::Twice => b"twice",
+            HexFault::TooLarge => b"size",
+            HexFault::NoEnd => b"end",
+        }
+    }
 }
 
 /// Why a text was not read.

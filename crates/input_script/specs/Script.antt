@@ -1,5 +1,5 @@
 -- A whole script: the first fault of a text, and what a text without one schedules.
-use Rattle.std.specs.Prelude.{◌≡◌, ℕ, ◌+◌, ◌≤◌, ◌&&◌, Bool, true, false, not, nat_lt, nat_le, if◌then◌else◌, List, [], ◌∷◌, ◌++◌, length, All, AllPairs, Option, Some, None}
+use Rattle.std.specs.Prelude.{◌≡◌, ℕ, ◌+◌, ◌≤◌, ◌&&◌, Bool, true, false, not, nat_lt, nat_le, if◌then◌else◌, List, [], ◌∷◌, ◌++◌, codes, length, All, AllPairs, Option, Some, None}
 use Rattle.std.specs.List.{list_any}
 use Rattle.input_script.specs.declared.input.Input.{Input}
 use Rattle.input_script.specs.declared.input.Input.TheVariants.{Adc}
@@ -91,3 +91,10 @@ pub record NeedsMemory (text : List ℕ) : Type 0 where
   pub cut : lines_of text ≡ front ++ rest
   pub sound : first_fault fault_at after 1 nothing front ≡ None
   pub some : 1 ≤ size (after_lines after nothing front)
+
+-- the word by which a fault is told
+abbrev pub script_word : ScriptFault → List ℕ
+script_word Form = codes "form"
+script_word Order = codes "order"
+script_word Range = codes "range"
+script_word TooMany = codes "events"

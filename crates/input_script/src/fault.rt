@@ -1,4 +1,6 @@
 //! Why a script is refused.
+ghost use Rattle.std.specs.Prelude.{◌≡◌, ◌≤◌, length};
+ghost use Rattle.input_script.specs.Script.{script_word};
 
 use thiserror::Error;
 
@@ -17,6 +19,21 @@ pub enum ScriptFault {
     /// 65,536 events and fail lines came before.
     #[error("events")]
     TooMany,
+}
+
+impl ScriptFault {
+    /// The word by which it is told.
+    pub fn word(self) -> &'static [u8]
+        ensures word { result.now ≡ script_word self }
+        ensures short { length result.now ≤ 8 }
+    {
+        match self {
+            ScriptFault::Form => b"form",
+            ScriptFault::Order => b"order",
+            ScriptFault::Range => b"range",
+            ScriptFault::TooMany => b"events",
+        }
+    }
 }
 
 /// Why a script was not read.

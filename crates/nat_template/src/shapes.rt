@@ -80,20 +80,7 @@ fn shape_of_instruction(pc: u16, form: &Form) -> TemplateShape
         Form::Ret | Form::Reti => TemplateShape::Ret,
         Form::Ijmp | Form::Icall => TemplateShape::Ind,
         Form::Sleep | Form::Spm => TemplateShape::Fault,
-        Form::Nop
-        | Form::Movw(..)
-        | Form::Muls(..)
-        | Form::Product(..)
-        | Form::Two(..)
-        | Form::Imm(..)
-        | Form::Word(..)
-        | Form::One(..)
-        | Form::Bld(..)
-        | Form::Bst(..)
-        | Form::Bset(_)
-        | Form::Bclr(_)
-        | Form::Break
-        | Form::Wdr => TemplateShape::Native,
+        _ => TemplateShape::Native,
     }
 }
 

@@ -1,6 +1,10 @@
 //! The lines that name what is wrong with an input.
 ghost use Rattle.std.specs.Prelude.{◌≡◌, ◌≤◌, length};
-ghost use Rattle.printed_text.specs.FaultyLines.{asm_part, asm_word, bad_image_text, bad_line_text, dump_part, dump_word, hex_part, hex_word, script_part, script_word};
+ghost use Rattle.avr_asm.specs.AsmText.{asm_word};
+ghost use Rattle.flash_dump.specs.DumpLines.{dump_word};
+ghost use Rattle.hex_image.specs.HexText.{hex_word};
+ghost use Rattle.input_script.specs.Script.{script_word};
+ghost use Rattle.printed_text.specs.FaultyLines.{asm_part, bad_image_text, bad_line_text, dump_part, hex_part, script_part};
 
 use avr_asm::AsmFault;
 use flash_dump::DumpFault;
@@ -12,28 +16,28 @@ use text_lines::{Text, push, push_address, push_number, whole};
 pub fn bad_hex_line(line: u32, fault: HexFault) -> Text
     ensures text { result.items ≡ bad_line_text hex_part line (hex_word fault) }
 {
-    bad_line(b"bad hex line ", line, word_of_hex(fault))
+    bad_line(b"bad hex line ", line, fault.word())
 }
 
 /// The script is broken.
 pub fn bad_script_line(line: u32, fault: ScriptFault) -> Text
     ensures text { result.items ≡ bad_line_text script_part line (script_word fault) }
 {
-    bad_line(b"bad script line ", line, word_of_script(fault))
+    bad_line(b"bad script line ", line, fault.word())
 }
 
 /// The dump is broken.
 pub fn bad_dump_line(line: u32, fault: DumpFault) -> Text
     ensures text { result.items ≡ bad_line_text dump_part line (dump_word fault) }
 {
-    bad_line(b"bad dump line ", line, word_of_dump(fault))
+    bad_line(b"bad dump line ", line, fault.word())
 }
 
 /// The source is broken.
 pub fn bad_asm_line(line: u32, fault: AsmFault) -> Text
     ensures text { result.items ≡ bad_line_text asm_part line (asm_word fault) }
 {
-    bad_line(b"bad asm line ", line, word_of_asm(fault))
+    bad_line(b"bad asm line ", line, fault.word())
 }
 
 /// The first word of an image that no task has.
@@ -61,59 +65,4 @@ fn bad_line(part: &[u8], line: u32, word: &[u8]) -> Text
     push(&mut text, word);
     push(&mut text, b"\n");
     text
-}
-
-fn word_of_hex(fault: HexFault) -> &'static [u8]
-    ensures word { result.now ≡ hex_word fault }
-    ensures short { length result.now ≤ 8 }
-{
-    match fault {
-        HexFault::Start => b"start",
-        HexFault::Digit => b"digit",
-        HexFault::Length => b"length",
-        HexFault::Checksum => b"checksum",
-        HexFault::Kind => b"kind",
-        HexFault::Wrap => b"wrap",
-        HexFault::Twice => b"twice",
-        HexFault::TooLarge => b"size",
-        HexFault::NoEnd => b"end",
-    }
-}
-
-fn word_of_script(fault: ScriptFault) -> &'static [u8]
-    ensures word { result.now ≡ script_word fault }
-    ensures short { length result.now ≤ 8 }
-{
-    match fault {
-        ScriptFault::Form => b"form",
-        ScriptFault::Order => b"order",
-        ScriptFault::Range => b"range",
-        ScriptFault::TooMany => b"events",
-    }
-}
-
-fn word_of_dump(fault: DumpFault) -> &'static [u8]
-    ensures word { result.now ≡ dump_word fault }
-    ensures short { length result.now ≤ 8 }
-{
-    match fault {
-        DumpFault::Form => b"form",
-        DumpFault::Order => b"order",
-        DumpFault::Range => b"range",
-    }
-}
-
-fn word_of_asm(fault: AsmFault) -> &'static [u8]
-    ensures word { result.now ≡ asm_word fault }
-    ensures short { length result.now ≤ 8 }
-{
-    match fault {
-        AsmFault::Form => b"form",
-        AsmFault::Mnemonic => b"mnemonic",
-        AsmFault::Range => b"range",
-        AsmFault::Twice => b"twice",
-        AsmFault::TooLarge => b"size",
-        AsmFault::Label => b"label",
-        AsmFault::Reach => b"reach",
-    }
 }

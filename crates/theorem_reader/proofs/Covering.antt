@@ -2,9 +2,9 @@
 use Rattle.std.proofs.Common.{◌≡◌, ◌⊎◌, ℕ, ◌≤◌, List, length, Some, refl, ap, subst, arith, inl, inr}
 use Rattle.tk_io.specs.Memory.{SinkState}
 use Rattle.byte_streams.specs.Streams.{Input}
-use Rattle.hex_image.specs.HexText.{HexText, hex_fault}
+use Rattle.hex_image.specs.HexText.{HexText, hex_fault, hex_word}
 use Rattle.hex_image.specs.declared.fault.HexFault.{HexFault}
-use Rattle.printed_text.specs.FaultyLines.{hex_part, hex_word}
+use Rattle.printed_text.specs.FaultyLines.{hex_part}
 use Rattle.cli_words.specs.declared.command.Command.{Command}
 use Rattle.cli_words.specs.declared.command.Command.TheVariants.{Help, Run, Dump, Restart, Tasks, Check, Generate, Asm}
 use Rattle.cli_words.specs.declared.command.RunOptions.{RunOptions}

@@ -1,8 +1,8 @@
 -- What is told of words and texts that are refused, and what `asm` writes.
 use Rattle.std.proofs.Common.{◌≡◌, ℕ, ◌<◌, ◌≤◌, List, ◌++◌, codes, length, drop, Some, None, refl, sym, ◌∙◌, subst, inl, inr}
-use Rattle.hex_image.specs.HexText.{HexText, hex_fault}
+use Rattle.hex_image.specs.HexText.{HexText, hex_fault, hex_word}
 use Rattle.hex_image.specs.Written.{written}
-use Rattle.input_script.specs.Script.{script_fault}
+use Rattle.input_script.specs.Script.{script_fault, script_word}
 use Rattle.hex_image.specs.declared.fault.HexFault.{HexFault}
 use Rattle.input_script.specs.declared.fault.ScriptFault.{ScriptFault}
 use Rattle.flash_dump.specs.declared.dump_line.DumpFault.{DumpFault}
@@ -12,7 +12,9 @@ use Rattle.cli_words.specs.declared.job.Job.TheVariants as jobs
 use Rattle.cli_words.specs.declared.status.Status.{Status}
 use Rattle.cli_words.specs.declared.status.Status.TheVariants as statuses
 use Rattle.printed_text.specs.PlainLines.{usage_line}
-use Rattle.printed_text.specs.FaultyLines.{bad_image_text, bad_line_text, hex_word, script_word, dump_word, asm_word}
+use Rattle.printed_text.specs.FaultyLines.{bad_image_text, bad_line_text}
+use Rattle.flash_dump.specs.DumpLines.{dump_word}
+use Rattle.avr_asm.specs.AsmText.{asm_word}
 use Rattle.cli_words.specs.Status.{number_of}
 use Rattle.byte_streams.specs.Streams.{Input}
 use Rattle.cli_words.specs.declared.job.Job.{Job}

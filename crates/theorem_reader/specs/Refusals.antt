@@ -1,17 +1,17 @@
 -- What is told of words and texts that are refused, and what `asm` writes.
 use Rattle.std.specs.Prelude.{◌≡◌, ◌⊎◌, ℕ, ◌<◌, ◌≤◌, List, ◌++◌, codes, decimal, drop, length, Option, Some, None}
-use Rattle.hex_image.specs.HexText.{hex_fault}
+use Rattle.hex_image.specs.HexText.{hex_fault, hex_word}
 use Rattle.hex_image.specs.Written.{written}
 use Rattle.hex_image.specs.declared.fault.HexFault.{HexFault}
-use Rattle.input_script.specs.Script.{Schedule, script_fault}
+use Rattle.input_script.specs.Script.{Schedule, script_fault, script_word}
 use Rattle.input_script.specs.declared.fault.ScriptFault.{ScriptFault}
 use Rattle.task_input.specs.Images.{IsFirstMisplaced}
 use Rattle.task_input.specs.Scripts.{Schedules, scripts_fault}
 use Rattle.flash_dump.specs.Dumps.{dump_fault}
 use Rattle.flash_dump.specs.declared.dump_line.DumpFault.{DumpFault}
-use Rattle.avr_asm.specs.AsmText.{AsmText, fault_of}
+use Rattle.avr_asm.specs.AsmText.{AsmText, fault_of, asm_word}
 use Rattle.avr_asm.specs.declared.fault.AsmFault.{AsmFault}
-use Rattle.printed_text.specs.FaultyLines.{hex_word, script_word, dump_word, asm_word}
+use Rattle.flash_dump.specs.DumpLines.{dump_word}
 use Rattle.printed_text.specs.PlainLines.{usage_line}
 use Rattle.program_steps.specs.Machines.{Machine}
 use Rattle.tk_tasks.specs.States.{Tasks as KeptTasks}

@@ -18,17 +18,13 @@ ghost use Rattle.tk_watch.specs.Words.{AskForHelp, AskToWatch};
 
 use crate::showing::{show, started};
 use crate::state::Bounds;
-use crate::view::View;
+use crate::view::{USAGE, View};
 use crate::words::view_of;
 use byte_streams::{Sink, Source};
 use cli_requests::run_job;
 use cli_words::{Job, Request, RunOptions, Status, run_options_of};
 use std::alloc::Global;
 use tkernel_cli::say;
-
-/// What is printed where the words ask for no view.
-const USAGE: &[u8] =
-    b"usage: tkwatch lines | state | memory | profile | trace N COUNT | visits 0xPC.. | changes 0xADDR COUNT [--steps N] [--quantum Q] [--swap S]\n";
 
 /// Answers a command line. `words` are those after the program's name: the word of a view, and behind it the options of
 /// `tkernel run`. The program that `input` tells runs as `tkernel run` has it run, and what the view shows of it is put to `out`,

@@ -1,6 +1,13 @@
 //! What is shown of a watched run.
+ghost use Rattle.std.specs.Prelude.{◌≡◌, IfSome};
+ghost use Rattle.tk_watch.specs.Kept.{IsPossible};
+ghost use Rattle.tk_watch.specs.Words.{view_in, views};
 
 use arrayvec::ArrayVec;
+
+/// What is printed where the words ask for no view.
+pub(crate) const USAGE: &[u8] =
+    b"usage: tkwatch lines | state | memory | profile | trace N COUNT | visits 0xPC.. | changes 0xADDR COUNT [--steps N] [--quantum Q] [--swap S]\n";
 
 /// How many places are looked for at most.
 pub const MOST_PLACES: usize = 16;
@@ -28,4 +35,20 @@ pub enum View {
     Visits(Places),
     /// Which of the bytes from a data address on a step changes, so many of them.
     Changes(u16, u8),
+}
+
+impl View {
+    /// The view of this word, of those that are one word.
+    pub(crate) fn named(word: &str) -> Option<View>
+        ensures view { result ≡ view_in views word.now }
+        ensures possible { IfSome result IsPossible }
+    {
+        Some(match word {
+            "lines" => View::Lines,
+            "state" => View::State,
+            "memory" => View::Memory,
+            "profile" => View::Profile,
+            _ => return None,
+        })
+    }
 }

@@ -3,7 +3,7 @@ ghost use Rattle.std.specs.Prelude.{◌≡◌, ◌≢◌, ◌+◌, ◌<◌, ◌�
 ghost use Rattle.input_script.specs.Grammar.{number_of};
 ghost use Rattle.tk_watch.specs.Kept.{IsPossible};
 ghost use Rattle.tk_watch.specs.ViewWords.{AskForChanges, AskForTrace, AskForVisits, AskWithWords, IsAddress};
-ghost use Rattle.tk_watch.specs.Words.{AskForView, view_in, views};
+ghost use Rattle.tk_watch.specs.Words.{AskForView};
 ghost use Rattle.tk_watch.specs.declared.view.View.TheVariants.{Visits};
 ghost use Rattle.tk_watch.specs.declared.view.View.{View as ViewValue};
 
@@ -26,24 +26,10 @@ pub(crate) fn view_of(words: &[String]) -> Option<(View, &[String])>
     match with_words(text, rest) {
         Some(found) => Some(found),
         None => {
-            let view = alone(text)?;
+            let view = View::named(text)?;
             Some((view, rest))
         }
     }
-}
-
-/// The view of this word, of those that are one word.
-fn alone(word: &str) -> Option<View>
-    ensures view { result ≡ view_in views word.now }
-    ensures possible { IfSome result IsPossible }
-{
-    Some(match word {
-        "lines" => View::Lines,
-        "state" => View::State,
-        "memory" => View::Memory,
-        "profile" => View::Profile,
-        _ => return None,
-    })
 }
 
 /// The view of this word, of those that have words of their own behind it, and the words behind those.

@@ -1,7 +1,6 @@
 use Rattle.std.proofs.Common.{◌∙◌, ap, inl, refl, subst}
-use Rattle.avr_asm.specs.AsmText.{IsRefusal}
+use Rattle.avr_asm.specs.AsmText.{IsRefusal, asm_word}
 use Rattle.cli_words.specs.declared.job.Job.TheVariants.{Write}
-use Rattle.printed_text.specs.FaultyLines.{asm_word}
 use Rattle.cli_requests.specs.Reading.{Bad, Good}
 use Rattle.cli_requests.proofs.asm_command.source_job.Goals as goal
 

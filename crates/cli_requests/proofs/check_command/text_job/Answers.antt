@@ -1,7 +1,8 @@
 use Rattle.std.proofs.Common.{◌≡◌, ◌-◌, ◌∙◌, ap, drop, length, refl, rules, subst, take, Err, Some, inl}
 use Rattle.flash_dump.specs.DumpAnswers.{IsRefusal}
 use Rattle.flash_dump.specs.Dumps.{IsDump, dump_fault}
-use Rattle.printed_text.specs.FaultyLines.{dump_word, hex_word}
+use Rattle.flash_dump.specs.DumpLines.{dump_word}
+use Rattle.hex_image.specs.HexText.{hex_word}
 use Rattle.cli_requests.specs.Reading.{Bad, Good}
 use Rattle.cli_requests.proofs.Judging.{position_inside, rest_whole}
 use Rattle.cli_requests.proofs.check_command.text_job.Goals as goal

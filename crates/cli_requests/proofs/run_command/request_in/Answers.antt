@@ -1,6 +1,6 @@
 use Rattle.std.proofs.Common.{◌∙◌, ap, refl, rules, subst, sym, Err, inl}
-use Rattle.input_script.specs.Script.{IsScript, script_fault}
-use Rattle.printed_text.specs.FaultyLines.{hex_word, script_word}
+use Rattle.input_script.specs.Script.{IsScript, script_fault, script_word}
+use Rattle.hex_image.specs.HexText.{hex_word}
 use Rattle.cli_requests.specs.Reading.{Bad, Good}
 use Rattle.cli_requests.proofs.Judging.{position_inside, rest_whole}
 use Rattle.cli_requests.proofs.run_command.request_in.Goals as goal

@@ -1,9 +1,9 @@
 use Rattle.std.proofs.Common.{◌≡◌, ◌∙◌, [], ap, length, refl, rules, subst, sym, Err, inl}
 use Rattle.std.specs.Prelude.{All}
-use Rattle.input_script.specs.Script.{Schedule}
+use Rattle.input_script.specs.Script.{Schedule, script_word}
 use Rattle.task_input.specs.Scripts.{Schedules, scripts_fault}
 use Rattle.task_input.proofs.FirstFaults.{each_task}
-use Rattle.printed_text.specs.FaultyLines.{hex_word, script_word}
+use Rattle.hex_image.specs.HexText.{hex_word}
 use Rattle.cli_requests.specs.Reading.{Bad, Good}
 use Rattle.cli_requests.specs.TasksCommand.{Placed, Refused}
 use Rattle.cli_requests.proofs.Judging.{position_inside, rest_whole}
