@@ -2,31 +2,22 @@
 ghost use Rattle.std.specs.Prelude.{◌≡◌, ◌≤◌, length};
 ghost use Rattle.avr_asm.specs.AsmText.{asm_word};
 
-use thiserror::Error;
-
 /// A fault of a line. A line's faults are tried in this order, and the first is reported.
-#[derive(Clone, Copy, Debug, Error)]
+#[derive(Clone, Copy, Debug)]
 pub enum AsmFault {
     /// The line hasn't the shape of a line, or a known mnemonic has operands of other kinds.
-    #[error("form")]
     Form,
     /// The mnemonic isn't in the table.
-    #[error("mnemonic")]
     Mnemonic,
     /// An operand is outside its field or limit, or the instruction is undefined with these registers.
-    #[error("range")]
     Range,
     /// The line's name was a label before.
-    #[error("twice")]
     Twice,
     /// The statement would end above word 24,576.
-    #[error("size")]
     TooLarge,
     /// A named target is no label.
-    #[error("label")]
     Label,
     /// The target is too far for a relative instruction.
-    #[error("reach")]
     Reach,
 }
 

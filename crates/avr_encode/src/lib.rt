@@ -23,13 +23,13 @@ mod codes;
 mod fields;
 
 use fields::{
-    branch, displaced, distance, flag_place, high_register_with, high_registers, io_bit,
-    mid_registers, pair_with, register, register_bit, register_pairs, register_with_io, registers,
+    branch, displaced, flag_place, high_register_with, high_registers, io_bit, jump, mid_registers,
+    pair_with, register, register_bit, register_pairs, register_with_io, registers,
 };
 
 /// The words of an instruction: the second of LDS, STS, JMP and CALL is a data address or a word of
 /// the program; all others have one word.
-#[derive(Clone, Copy, Debug, PartialEq, Eq)]
+#[derive(Clone, Copy, PartialEq, Eq)]
 pub struct Words {
     pub first: u16,
     pub second: Option<u16>,
@@ -62,34 +62,34 @@ fn address(form: &Form) -> Option<u16>
     }
 }
 
-// The first word: the fixed bits of the row, and each operand at its place.
+// The first word: the row of the manual's table.
 #[tactic(auto, unfolding(avr_isa::specs::Encoding::first_word))]
 fn opcode(form: &Form) -> u16
     ensures value { result ≡ first_word form.now }
 {
     match form {
         Form::Nop => 0x0000,
-        Form::Movw(d, r) => 0x0100 + register_pairs(d, r),
-        Form::Muls(d, r) => 0x0200 + high_registers(d, r),
-        Form::Product(op, d, r) => codes::product(op) + mid_registers(d, r),
-        Form::Two(op, d, r) => codes::two(op) + registers(d, r),
-        Form::Cpse(d, r) => 0x1000 + registers(d, r),
-        Form::Imm(op, d, k) => codes::immediate(op) + high_register_with(d, *k),
-        Form::LoadOff(d, base, q) => 0x8000 + codes::base(base) + displaced(d, q),
-        Form::StoreOff(base, q, r) => 0x8200 + codes::base(base) + displaced(r, q),
-        Form::Lds(d, _) => 0x9000 + register(d),
-        Form::LoadAt(d, pointer) => 0x9000 + codes::pointer(pointer) + register(d),
-        Form::Lpm(d, false) => 0x9004 + register(d),
-        Form::Lpm(d, true) => 0x9005 + register(d),
-        Form::Elpm(d, false) => 0x9006 + register(d),
-        Form::Elpm(d, true) => 0x9007 + register(d),
-        Form::Pop(d) => 0x900F + register(d),
-        Form::Sts(_, r) => 0x9200 + register(r),
-        Form::StoreAt(pointer, r) => 0x9200 + codes::pointer(pointer) + register(r),
-        Form::Push(r) => 0x920F + register(r),
-        Form::One(op, d) => codes::one(op) + register(d),
-        Form::Bset(s) => 0x9408 + flag_place(s),
-        Form::Bclr(s) => 0x9488 + flag_place(s),
+        Form::Movw(d, r) => register_pairs(0x0100, d, r),
+        Form::Muls(d, r) => high_registers(0x0200, d, r),
+        Form::Product(op, d, r) => mid_registers(codes::product(op), d, r),
+        Form::Two(op, d, r) => registers(codes::two(op), d, r),
+        Form::Cpse(d, r) => registers(0x1000, d, r),
+        Form::Imm(op, d, k) => high_register_with(codes::immediate(op), d, *k),
+        Form::LoadOff(d, base, q) => displaced(0x8000 + codes::base(base), d, q),
+        Form::StoreOff(base, q, r) => displaced(0x8200 + codes::base(base), r, q),
+        Form::Lds(d, _) => register(0x9000, d),
+        Form::LoadAt(d, pointer) => register(0x9000 + codes::pointer(pointer), d),
+        Form::Lpm(d, false) => register(0x9004, d),
+        Form::Lpm(d, true) => register(0x9005, d),
+        Form::Elpm(d, false) => register(0x9006, d),
+        Form::Elpm(d, true) => register(0x9007, d),
+        Form::Pop(d) => register(0x900F, d),
+        Form::Sts(_, r) => register(0x9200, r),
+        Form::StoreAt(pointer, r) => register(0x9200 + codes::pointer(pointer), r),
+        Form::Push(r) => register(0x920F, r),
+        Form::One(op, d) => register(codes::one(op), d),
+        Form::Bset(s) => flag_place(0x9408, s),
+        Form::Bclr(s) => flag_place(0x9488, s),
         Form::Ijmp => 0x9409,
         Form::Jmp(_) => 0x940C,
         Form::Call(_) => 0x940E,
@@ -102,20 +102,20 @@ fn opcode(form: &Form) -> u16
         Form::Lpm0 => 0x95C8,
         Form::Elpm0 => 0x95D8,
         Form::Spm => 0x95E8,
-        Form::Word(op, p, k) => codes::word(op) + pair_with(p, k),
-        Form::Cbi(a, b) => 0x9800 + io_bit(a, b),
-        Form::Sbic(a, b) => 0x9900 + io_bit(a, b),
-        Form::Sbi(a, b) => 0x9A00 + io_bit(a, b),
-        Form::Sbis(a, b) => 0x9B00 + io_bit(a, b),
-        Form::InIo(d, a) => 0xB000 + register_with_io(d, a),
-        Form::OutIo(a, r) => 0xB800 + register_with_io(r, a),
-        Form::Rjmp(k) => 0xC000 + distance(k),
-        Form::Rcall(k) => 0xD000 + distance(k),
-        Form::Brbs(s, k) => 0xF000 + branch(s, k),
-        Form::Brbc(s, k) => 0xF400 + branch(s, k),
-        Form::Bld(d, b) => 0xF800 + register_bit(d, b),
-        Form::Bst(d, b) => 0xFA00 + register_bit(d, b),
-        Form::Sbrc(r, b) => 0xFC00 + register_bit(r, b),
-        Form::Sbrs(r, b) => 0xFE00 + register_bit(r, b),
+        Form::Word(op, p, k) => pair_with(codes::word(op), p, k),
+        Form::Cbi(a, b) => io_bit(0x9800, a, b),
+        Form::Sbic(a, b) => io_bit(0x9900, a, b),
+        Form::Sbi(a, b) => io_bit(0x9A00, a, b),
+        Form::Sbis(a, b) => io_bit(0x9B00, a, b),
+        Form::InIo(d, a) => register_with_io(0xB000, d, a),
+        Form::OutIo(a, r) => register_with_io(0xB800, r, a),
+        Form::Rjmp(k) => jump(0xC000, k),
+        Form::Rcall(k) => jump(0xD000, k),
+        Form::Brbs(s, k) => branch(0xF000, s, k),
+        Form::Brbc(s, k) => branch(0xF400, s, k),
+        Form::Bld(d, b) => register_bit(0xF800, d, b),
+        Form::Bst(d, b) => register_bit(0xFA00, d, b),
+        Form::Sbrc(r, b) => register_bit(0xFC00, r, b),
+        Form::Sbrs(r, b) => register_bit(0xFE00, r, b),
     }
 }

@@ -7,19 +7,15 @@ ghost use Rattle.flash_dump.specs.DumpLines.{dump_word, has_page, IsReadLine, pa
 
 use flash_model::PAGES;
 use text_lines::value_of;
-use thiserror::Error;
 
 /// A fault of a line. A line's faults are tried in this order, and the first is reported.
-#[derive(Clone, Copy, Debug, Error)]
+#[derive(Clone, Copy, Debug)]
 pub enum DumpFault {
     /// The line isn't empty, and hasn't the form of a page's line.
-    #[error("form")]
     Form,
     /// Its page isn't above that of the line before.
-    #[error("order")]
     Order,
     /// Its page is above 511.
-    #[error("range")]
     Range,
 }
 

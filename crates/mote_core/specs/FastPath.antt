@@ -30,6 +30,10 @@ with_sram_alone sram devices words = record { sram = sram; devices = devices; wo
 abbrev pub core_at : Cpu → ℕ → ℕ → Cpu
 core_at cpu sreg pc = with_counter (with_status cpu sreg) pc
 
+-- these registers after an operation that leaves this core; SREG and the pc, which stand apart, stay
+abbrev pub registers_after : Cpu → Cpu → Cpu
+registers_after cpu core = core_at core cpu.sreg cpu.pc
+
 -- the mote whose registers and bytes of SRAM are these, its SREG and pc apart
 abbrev pub mote_with : Mote → Cpu → List ℕ → (sreg pc : ℕ) → Mote
 mote_with m cpu sram sreg pc = record m { cpu = core_at cpu sreg pc; sram = sram }

@@ -1,8 +1,10 @@
 //! The fast path of a step: a micro-operation that touches the core's registers and SRAM alone.
 
-ghost use Rattle.std.specs.Prelude.{◌≡◌, ℕ, ◌<◌, ◌≤◌, true, if◌then◌else◌, ◌+◌, ◌%◌, List, Some, IfSome, IfNone};
+ghost use Rattle.std.specs.Prelude.{◌≡◌, ℕ, ◌<◌, ◌≤◌, true, if◌then◌else◌, ◌+◌, ◌%◌, ◌^◌, List, Some, IfSome, IfNone};
 ghost use Rattle.avr_isa.specs.Addresses.{wrapping_sum, relative as relative_of};
-ghost use Rattle.avr_exec.specs.Registers.{with_register, pair, with_pair};
+ghost use Rattle.avr_flags.specs.Status.{with_bit as with_flag};
+ghost use Rattle.avr_exec.specs.Arithmetic.{two_of, immediate_of, word_of, one_of};
+ghost use Rattle.avr_exec.specs.Registers.{register, with_register, pair, with_pair};
 ghost use Rattle.avr_exec.specs.Execution.{exec_of};
 ghost use Rattle.avr_exec.specs.Spaces.{Went};
 ghost use Rattle.flash_model.specs.MicroOps.{form_of, next_size_in, has_form, is_in_sram};
@@ -10,7 +12,7 @@ ghost use Rattle.mote_devices.specs.State.{State};
 ghost use Rattle.sram_layout.specs.Bytes.{byte_at, with_byte};
 ghost use Rattle.sram_layout.specs.Regions.{whole_sram, is_within};
 ghost use Rattle.mote_core.specs.Physical.{physical_calls};
-ghost use Rattle.mote_core.specs.FastPath.{core_at, mote_with, with_sram_alone, IsFastStep};
+ghost use Rattle.mote_core.specs.FastPath.{core_at, registers_after, mote_with, with_sram_alone, IsFastStep};
 ghost use Rattle.flash_model.specs.DecodeCache.{AreMicroOps};
 ghost use Rattle.mote_core.specs.declared.mote.Mote.{Mote};
 
@@ -18,7 +20,7 @@ use avr_exec::{Cpu, TRANSFER, displaced, has_bit, swapped, with_bit};
 use avr_flags::{
     adc, add, adiw, and_bits, asr, com, dec, eor, inc, lsr, mul, neg, or_bits, ror, sbc, sbiw, sub,
 };
-use avr_isa::{Base, relative};
+use avr_isa::{Base, HighReg, ImmOp, OneOp, PairReg, Reg, Six, TwoOp, WordOp, relative};
 use flash_model::MicroOp;
 use sram_layout::Sram;
 
@@ -63,98 +65,44 @@ fn fast_step(
 {
     match op {
         MicroOp::Movw(d, r) => copy_pair(cpu, place, d.get(), r.get()),
-        MicroOp::Cpc(d, r) => keep_flags(sreg, place, sbc(*sreg, cpu.byte(d), cpu.byte(r))),
-        MicroOp::Sbc(d, r) => keep(
-            cpu,
-            sreg,
-            place,
-            d.get(),
-            sbc(*sreg, cpu.byte(d), cpu.byte(r)),
-        ),
-        MicroOp::Add(d, r) => keep(
-            cpu,
-            sreg,
-            place,
-            d.get(),
-            add(*sreg, cpu.byte(d), cpu.byte(r)),
-        ),
-        MicroOp::Cp(d, r) => keep_flags(sreg, place, sub(*sreg, cpu.byte(d), cpu.byte(r))),
-        MicroOp::Sub(d, r) => keep(
-            cpu,
-            sreg,
-            place,
-            d.get(),
-            sub(*sreg, cpu.byte(d), cpu.byte(r)),
-        ),
-        MicroOp::Adc(d, r) => keep(
-            cpu,
-            sreg,
-            place,
-            d.get(),
-            adc(*sreg, cpu.byte(d), cpu.byte(r)),
-        ),
-        MicroOp::Eor(d, r) => keep(
-            cpu,
-            sreg,
-            place,
-            d.get(),
-            eor(*sreg, cpu.byte(d), cpu.byte(r)),
-        ),
-        MicroOp::Mov(d, r) => set(cpu, place, d.get(), cpu.byte(r)),
-        MicroOp::Cpi(d, k) => keep_flags(sreg, place, sub(*sreg, cpu.register(d.get()), *k)),
-        MicroOp::Sbci(d, k) => keep(
-            cpu,
-            sreg,
-            place,
-            d.get(),
-            sbc(*sreg, cpu.register(d.get()), *k),
-        ),
-        MicroOp::Subi(d, k) => keep(
-            cpu,
-            sreg,
-            place,
-            d.get(),
-            sub(*sreg, cpu.register(d.get()), *k),
-        ),
-        MicroOp::Ldi(d, k) => set(cpu, place, d.get(), *k),
-        MicroOp::Adiw(p, k) => keep_pair(
-            cpu,
-            sreg,
-            place,
-            p.get(),
-            adiw(*sreg, cpu.pair(p.get()), k.get()),
-        ),
-        MicroOp::Sbiw(p, k) => keep_pair(
-            cpu,
-            sreg,
-            place,
-            p.get(),
-            sbiw(*sreg, cpu.pair(p.get()), k.get()),
-        ),
-        MicroOp::Lsr(d) => keep(cpu, sreg, place, d.get(), lsr(*sreg, cpu.byte(d))),
-        MicroOp::Ror(d) => keep(cpu, sreg, place, d.get(), ror(*sreg, cpu.byte(d))),
-        MicroOp::Dec(d) => keep(cpu, sreg, place, d.get(), dec(*sreg, cpu.byte(d))),
+        MicroOp::Cpc(d, r) => two(TwoOp::Cpc, cpu, sreg, place, d, r),
+        MicroOp::Sbc(d, r) => two(TwoOp::Sbc, cpu, sreg, place, d, r),
+        MicroOp::Add(d, r) => two(TwoOp::Add, cpu, sreg, place, d, r),
+        MicroOp::Cp(d, r) => two(TwoOp::Cp, cpu, sreg, place, d, r),
+        MicroOp::Sub(d, r) => two(TwoOp::Sub, cpu, sreg, place, d, r),
+        MicroOp::Adc(d, r) => two(TwoOp::Adc, cpu, sreg, place, d, r),
+        MicroOp::Eor(d, r) => two(TwoOp::Eor, cpu, sreg, place, d, r),
+        MicroOp::Mov(d, r) => two(TwoOp::Mov, cpu, sreg, place, d, r),
+        MicroOp::Cpi(d, k) => immediate(ImmOp::Cpi, cpu, sreg, place, d, *k),
+        MicroOp::Sbci(d, k) => immediate(ImmOp::Sbci, cpu, sreg, place, d, *k),
+        MicroOp::Subi(d, k) => immediate(ImmOp::Subi, cpu, sreg, place, d, *k),
+        MicroOp::Ldi(d, k) => immediate(ImmOp::Ldi, cpu, sreg, place, d, *k),
+        MicroOp::Adiw(p, k) => word(WordOp::Adiw, cpu, sreg, place, p, k),
+        MicroOp::Sbiw(p, k) => word(WordOp::Sbiw, cpu, sreg, place, p, k),
+        MicroOp::Lsr(d) => one(OneOp::Lsr, cpu, sreg, place, d),
+        MicroOp::Ror(d) => one(OneOp::Ror, cpu, sreg, place, d),
+        MicroOp::Dec(d) => one(OneOp::Dec, cpu, sreg, place, d),
         MicroOp::Brbs(s, k) => Some(branched(place, has_bit(*sreg, s.get()), k.get())),
         MicroOp::Brbc(s, k) => Some(branched(place, !has_bit(*sreg, s.get()), k.get())),
         MicroOp::Rjmp(k) => Some(usize::from(relative(place as u16, k.get()))),
         MicroOp::Jmp(a) => Some(usize::from(*a)),
-        MicroOp::Lds(d, a) => load(cpu, sram, place, d.get(), *a, 2),
-        MicroOp::Sts(r, a) => store(sram, place, *a, cpu.byte(r), 2),
+        MicroOp::Lds(d, a) => load(cpu, sram, place, d, *a, 2),
+        MicroOp::Sts(r, a) => store(cpu, sram, place, *a, r, 2),
         MicroOp::LoadZ(d, q) => {
             let a = displaced(cpu, &Base::Z, q);
             if !Sram::has(a) {
                 return None;
             }
-            load(cpu, sram, place, d.get(), a, 1)
+            load(cpu, sram, place, d, a, 1)
         }
         MicroOp::StoreZ(q, r) => {
             let a = displaced(cpu, &Base::Z, q);
             if !Sram::has(a) {
                 return None;
             }
-            store(sram, place, a, cpu.byte(r), 1)
+            store(cpu, sram, place, a, r, 1)
         }
-        MicroOp::InSreg(d) => set(cpu, place, d.get(), *sreg),
+        MicroOp::InSreg(d) => set(cpu, place, d, *sreg),
         MicroOp::OutSreg(r) => set_sreg(sreg, place, cpu.byte(r)),
         MicroOp::Call(a) => {
             let sp = cpu.sp;
@@ -186,58 +134,128 @@ fn seldom_step(op: &MicroOp, cpu: &mut Cpu, sreg: &mut u8, place: usize) -> Opti
 {
     match op {
         MicroOp::Nop => next(place),
-        MicroOp::And(d, r) => keep(
-            cpu,
-            sreg,
-            place,
-            d.get(),
-            and_bits(*sreg, cpu.byte(d), cpu.byte(r)),
-        ),
-        MicroOp::Or(d, r) => keep(
-            cpu,
-            sreg,
-            place,
-            d.get(),
-            or_bits(*sreg, cpu.byte(d), cpu.byte(r)),
-        ),
-        MicroOp::Mul(d, r) => keep_pair(cpu, sreg, place, 0, mul(*sreg, cpu.byte(d), cpu.byte(r))),
-        MicroOp::Ori(d, k) => keep(
-            cpu,
-            sreg,
-            place,
-            d.get(),
-            or_bits(*sreg, cpu.register(d.get()), *k),
-        ),
-        MicroOp::Andi(d, k) => keep(
-            cpu,
-            sreg,
-            place,
-            d.get(),
-            and_bits(*sreg, cpu.register(d.get()), *k),
-        ),
-        MicroOp::Com(d) => keep(cpu, sreg, place, d.get(), com(*sreg, cpu.byte(d))),
-        MicroOp::Neg(d) => keep(cpu, sreg, place, d.get(), neg(*sreg, cpu.byte(d))),
-        MicroOp::Swap(d) => set(cpu, place, d.get(), swapped(cpu.byte(d))),
-        MicroOp::Inc(d) => keep(cpu, sreg, place, d.get(), inc(*sreg, cpu.byte(d))),
-        MicroOp::Asr(d) => keep(cpu, sreg, place, d.get(), asr(*sreg, cpu.byte(d))),
-        MicroOp::Sbrc(r, b, n) => { Some(skipped(place, !has_bit(cpu.byte(r), b.get()), *n)) }
-        MicroOp::Sbrs(r, b, n) => { Some(skipped(place, has_bit(cpu.byte(r), b.get()), *n)) }
-        MicroOp::Cpse(d, r, n) => { Some(skipped(place, cpu.byte(d) == cpu.byte(r), *n)) }
-        MicroOp::Bld(d, b) => set(
-            cpu,
-            place,
-            d.get(),
-            with_bit(cpu.byte(d), b.get(), has_bit(*sreg, TRANSFER)),
-        ),
-        MicroOp::Bst(r, b) => set_sreg(
-            sreg,
-            place,
-            with_bit(*sreg, TRANSFER, has_bit(cpu.byte(r), b.get())),
-        ),
-        MicroOp::Bset(s) => set_sreg(sreg, place, with_bit(*sreg, s.get(), true)),
-        MicroOp::Bclr(s) => set_sreg(sreg, place, with_bit(*sreg, s.get(), false)),
+        MicroOp::And(d, r) => two(TwoOp::And, cpu, sreg, place, d, r),
+        MicroOp::Or(d, r) => two(TwoOp::Or, cpu, sreg, place, d, r),
+        MicroOp::Mul(d, r) => two(TwoOp::Mul, cpu, sreg, place, d, r),
+        MicroOp::Ori(d, k) => immediate(ImmOp::Ori, cpu, sreg, place, d, *k),
+        MicroOp::Andi(d, k) => immediate(ImmOp::Andi, cpu, sreg, place, d, *k),
+        MicroOp::Com(d) => one(OneOp::Com, cpu, sreg, place, d),
+        MicroOp::Neg(d) => one(OneOp::Neg, cpu, sreg, place, d),
+        MicroOp::Swap(d) => one(OneOp::Swap, cpu, sreg, place, d),
+        MicroOp::Inc(d) => one(OneOp::Inc, cpu, sreg, place, d),
+        MicroOp::Asr(d) => one(OneOp::Asr, cpu, sreg, place, d),
+        MicroOp::Sbrc(r, b, n) => Some(skipped(place, !has_bit(cpu.byte(r), b.get()), *n)),
+        MicroOp::Sbrs(r, b, n) => Some(skipped(place, has_bit(cpu.byte(r), b.get()), *n)),
+        MicroOp::Cpse(d, r, n) => Some(skipped(place, cpu.byte(d) == cpu.byte(r), *n)),
+        MicroOp::Bld(d, b) => {
+            let bit = has_bit(*sreg, TRANSFER);
+            set(cpu, place, d, with_bit(cpu.byte(d), b.get(), bit))
+        }
+        MicroOp::Bst(r, b) => set_bit(sreg, place, TRANSFER, has_bit(cpu.byte(r), b.get())),
+        MicroOp::Bset(s) => set_bit(sreg, place, s.get(), true),
+        MicroOp::Bclr(s) => set_bit(sreg, place, s.get(), false),
         _ => None,
     }
+}
+
+/// An operation on two registers; goes on to the next word.
+#[tactic(auto, unfolding(avr_exec::specs::Arithmetic::two_of))]
+#[inline(always)]
+fn two(op: TwoOp, cpu: &mut Cpu, sreg: &mut u8, place: usize, d: &Reg, r: &Reg) -> Option<usize>
+    requires low { place < 0xF000 }
+    ensures after { cpu.new ≡ registers_after cpu.old (two_of op (core_at cpu.old sreg.old place) d.now r.now) }
+    ensures status { sreg.new ≡ (two_of op (core_at cpu.old sreg.old place) d.now r.now).sreg }
+    ensures tells { result ≡ Some (wrapping_sum place 1) }
+{
+    let (left, right) = (cpu.byte(d), cpu.byte(r));
+    match op {
+        TwoOp::Cpc => keep_flags(sreg, place, sbc(*sreg, left, right)),
+        TwoOp::Sbc => keep(cpu, sreg, place, d.get(), sbc(*sreg, left, right)),
+        TwoOp::Add => keep(cpu, sreg, place, d.get(), add(*sreg, left, right)),
+        TwoOp::Cp => keep_flags(sreg, place, sub(*sreg, left, right)),
+        TwoOp::Sub => keep(cpu, sreg, place, d.get(), sub(*sreg, left, right)),
+        TwoOp::Adc => keep(cpu, sreg, place, d.get(), adc(*sreg, left, right)),
+        TwoOp::And => keep(cpu, sreg, place, d.get(), and_bits(*sreg, left, right)),
+        TwoOp::Eor => keep(cpu, sreg, place, d.get(), eor(*sreg, left, right)),
+        TwoOp::Or => keep(cpu, sreg, place, d.get(), or_bits(*sreg, left, right)),
+        TwoOp::Mov => set(cpu, place, d, right),
+        TwoOp::Mul => keep_pair(cpu, sreg, place, 0, mul(*sreg, left, right)),
+    }
+}
+
+/// An operation on a register and a constant; goes on to the next word.
+#[tactic(auto, unfolding(avr_exec::specs::Arithmetic::immediate_of))]
+#[inline(always)]
+fn immediate(
+    op: ImmOp,
+    cpu: &mut Cpu,
+    sreg: &mut u8,
+    place: usize,
+    d: &HighReg,
+    k: u8,
+) -> Option<usize>
+    requires low { place < 0xF000 }
+    ensures after { cpu.new ≡ registers_after cpu.old (immediate_of op (core_at cpu.old sreg.old place) d.now k) }
+    ensures status { sreg.new ≡ (immediate_of op (core_at cpu.old sreg.old place) d.now k).sreg }
+    ensures tells { result ≡ Some (wrapping_sum place 1) }
+{
+    let d = d.get();
+    let left = cpu.register(d);
+    match op {
+        ImmOp::Cpi => keep_flags(sreg, place, sub(*sreg, left, k)),
+        ImmOp::Sbci => keep(cpu, sreg, place, d, sbc(*sreg, left, k)),
+        ImmOp::Subi => keep(cpu, sreg, place, d, sub(*sreg, left, k)),
+        ImmOp::Ori => keep(cpu, sreg, place, d, or_bits(*sreg, left, k)),
+        ImmOp::Andi => keep(cpu, sreg, place, d, and_bits(*sreg, left, k)),
+        ImmOp::Ldi => keep(cpu, sreg, place, d, (k, *sreg)),
+    }
+}
+
+/// An operation on a pair and a constant; goes on to the next word.
+#[tactic(auto, unfolding(avr_exec::specs::Arithmetic::word_of))]
+#[inline(always)]
+fn word(
+    op: WordOp,
+    cpu: &mut Cpu,
+    sreg: &mut u8,
+    place: usize,
+    p: &PairReg,
+    k: &Six,
+) -> Option<usize>
+    requires low { place < 0xF000 }
+    ensures after { cpu.new ≡ registers_after cpu.old (word_of op (core_at cpu.old sreg.old place) p.now k.now) }
+    ensures status { sreg.new ≡ (word_of op (core_at cpu.old sreg.old place) p.now k.now).sreg }
+    ensures tells { result ≡ Some (wrapping_sum place 1) }
+{
+    let left = cpu.pair(p.get());
+    let outcome = match op {
+        WordOp::Adiw => adiw(*sreg, left, k.get()),
+        WordOp::Sbiw => sbiw(*sreg, left, k.get()),
+    };
+    keep_pair(cpu, sreg, place, p.get(), outcome)
+}
+
+/// An operation on one register; goes on to the next word.
+#[tactic(auto, unfolding(avr_exec::specs::Arithmetic::one_of))]
+#[inline(always)]
+fn one(op: OneOp, cpu: &mut Cpu, sreg: &mut u8, place: usize, d: &Reg) -> Option<usize>
+    requires low { place < 0xF000 }
+    ensures after { cpu.new ≡ registers_after cpu.old (one_of op (core_at cpu.old sreg.old place) d.now) }
+    ensures status { sreg.new ≡ (one_of op (core_at cpu.old sreg.old place) d.now).sreg }
+    ensures tells { result ≡ Some (wrapping_sum place 1) }
+{
+    let left = cpu.byte(d);
+    let outcome = match op {
+        OneOp::Com => com(*sreg, left),
+        OneOp::Neg => neg(*sreg, left),
+        OneOp::Swap => (swapped(left), *sreg),
+        OneOp::Inc => inc(*sreg, left),
+        OneOp::Asr => asr(*sreg, left),
+        OneOp::Lsr => lsr(*sreg, left),
+        OneOp::Ror => ror(*sreg, left),
+        OneOp::Dec => dec(*sreg, left),
+    };
+    keep(cpu, sreg, place, d.get(), outcome)
 }
 
 /// Goes on to the next word.
@@ -296,13 +314,12 @@ fn keep_pair(
 
 /// Writes a register, and goes on.
 #[inline(always)]
-fn set(cpu: &mut Cpu, place: usize, d: u8, value: u8) -> Option<usize>
+fn set(cpu: &mut Cpu, place: usize, d: &Reg, value: u8) -> Option<usize>
     requires low { place < 0xF000 }
-    requires register { d < 32 }
-    ensures after { cpu.new ≡ with_register cpu.old d value }
+    ensures after { cpu.new ≡ with_register cpu.old d.now value }
     ensures tells { result ≡ Some (wrapping_sum place 1) }
 {
-    cpu.set_register(d, value);
+    cpu.set_byte(d, value);
     next(place)
 }
 
@@ -334,30 +351,41 @@ fn set_sreg(sreg: &mut u8, place: usize, value: u8) -> Option<usize>
     next(place)
 }
 
+/// Gives a bit of SREG a value, and goes on.
+#[inline(always)]
+fn set_bit(sreg: &mut u8, place: usize, number: u8, value: bool) -> Option<usize>
+    requires low { place < 0xF000 }
+    requires bit { number < 8 }
+    ensures status { sreg.new ≡ with_flag sreg.old (2 ^ number) value }
+    ensures tells { result ≡ Some (wrapping_sum place 1) }
+{
+    let status = with_bit(*sreg, number, value);
+    set_sreg(sreg, place, status)
+}
+
 /// Brings the byte at an address of SRAM into a register, and goes on by some words.
 #[inline(always)]
-fn load(cpu: &mut Cpu, sram: &Sram, place: usize, d: u8, a: u16, words: usize) -> Option<usize>
+fn load(cpu: &mut Cpu, sram: &Sram, place: usize, d: &Reg, a: u16, words: usize) -> Option<usize>
     requires low { place < 0xF000 }
     requires words { words ≤ 2 }
-    requires register { d < 32 }
     requires sram { is_within whole_sram a ≡ true }
-    ensures after { cpu.new ≡ with_register cpu.old d (byte_at sram.now a) }
+    ensures after { cpu.new ≡ with_register cpu.old d.now (byte_at sram.now a) }
     ensures tells { result ≡ Some (wrapping_sum place words) }
 {
-    cpu.set_register(d, sram.byte(a));
+    cpu.set_byte(d, sram.byte(a));
     Some(place + words)
 }
 
-/// Takes a byte to an address of SRAM, and goes on by some words.
+/// Takes the byte of a register to an address of SRAM, and goes on by some words.
 #[inline(always)]
-fn store(sram: &mut Sram, place: usize, a: u16, value: u8, words: usize) -> Option<usize>
+fn store(cpu: &Cpu, sram: &mut Sram, place: usize, a: u16, r: &Reg, words: usize) -> Option<usize>
     requires low { place < 0xF000 }
     requires words { words ≤ 2 }
     requires sram { is_within whole_sram a ≡ true }
-    ensures memory { sram.new ≡ with_byte sram.old a value }
+    ensures memory { sram.new ≡ with_byte sram.old a (register cpu.now r.now) }
     ensures tells { result ≡ Some (wrapping_sum place words) }
 {
-    sram.set(a, value);
+    sram.set(a, cpu.byte(r));
     Some(place + words)
 }
 

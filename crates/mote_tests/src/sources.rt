@@ -255,7 +255,8 @@ fn refusal(rt: &impl Abort, alloc: Global, text: &[u8]) -> Result<String, Fail> 
     match assemble(alloc, text) {
         Ok(_) => Err("the source is assembled".into()),
         Err(AsmError::Bad { line, fault }) => {
-            Ok(format!(in alloc; "bad asm line {line} {fault}")?)
+            let word = str::from_utf8(fault.word()).unwrap_or("");
+            Ok(format!(in alloc; "bad asm line {line} {word}")?)
         }
         Err(AsmError::NoMemory) => Err("no memory".into()),
     }
