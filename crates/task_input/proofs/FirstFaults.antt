@@ -144,7 +144,7 @@ among_all count number known (line ∷ lines) =
 
 -- What is scheduled for a task is what its own lines schedule. ---------------------------------------------
 
-own_schedule : (task : ℕ) (known : ℕ → Schedule) (lines : List (List ℕ)) → after_lines after known lines task ≡ after_lines script.after (known task) (own_lines task lines)
+pub own_schedule : (task : ℕ) (known : ℕ → Schedule) (lines : List (List ℕ)) → after_lines after known lines task ≡ after_lines script.after (known task) (own_lines task lines)
 own_schedule task known [] = refl
 own_schedule task known (line ∷ lines) = own_schedule task (after known line) lines
 

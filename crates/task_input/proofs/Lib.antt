@@ -4,3 +4,4 @@ mod OwnTexts
 mod Naming
 pub mod FirstFaults
 mod WorkedScripts
+mod TextAgreement

@@ -43,6 +43,13 @@ inside count k d below = omega (arith, get_or-range_with_len 0 count k d (omega 
 pub found_below : (count task : ℕ) (line : List ℕ) → task_of count line ≡ Some task → task < count
 found_below count task line is = (found_by (has_own line) (λ t. t < count) (range_with_len 0 count) task (inside count) is).0
 
+-- and it has something of it
+pub found_own : (count task : ℕ) (line : List ℕ) → task_of count line ≡ Some task → own_line task line ≢ []
+found_own count task line is empty =
+    let some : has_own line task ≡ true = (found_by (has_own line) (λ t. t < count) (range_with_len 0 count) task (inside count) is).1 in
+    let none : has_own line task ≡ false = ap (λ own. ltb 0 (length own)) empty in
+    absurd (cc)
+
 -- where none is found, none has it
 pub none_own : (count task : ℕ) (line : List ℕ) → task_of count line ≡ None → task < count → own_line task line ≡ []
 none_own count task line is below =

@@ -96,7 +96,7 @@ ended_lines [] lacks = refl
 ended_lines (line ∷ lines) lacks =
     ended_first line (text_of lines) (All-head (Lacks 10) line lines lacks) ∙ ap (λ l. line ∷ l) (ended_lines lines (All-tail (Lacks 10) line lines lacks))
 
-own_all : (task : ℕ) (lines : List (List ℕ)) → All (Lacks 10) lines → All (Lacks 10) (own_lines task lines)
+pub own_all : (task : ℕ) (lines : List (List ℕ)) → All (Lacks 10) lines → All (Lacks 10) (own_lines task lines)
 own_all task [] lacks = All-nil (Lacks 10)
 own_all task (line ∷ lines) lacks =
     All-cons (Lacks 10) (own_line task line) (own_lines task lines) (own_lacks task line (All-head (Lacks 10) line lines lacks)) (own_all task lines (All-tail (Lacks 10) line lines lacks))

@@ -2,3 +2,4 @@
 pub mod Scripts
 pub mod Reading
 pub mod Images
+pub mod GrammarLaw

@@ -7,12 +7,15 @@
 //! ```
 //!
 //! Task i has the words 4096·i to 4096·i + 4095 of the image. `specs/Scripts` is what a script of several tasks says, and
-//! `specs/Images` which words may not stand; docs/TASKS.md tells both.
+//! `specs/Images` which words may not stand; docs/TASKS.md tells both. [`grammar`] is the law that the former say what the format
+//! says of all lines at once (`specs/GrammarLaw`): each task's own lines are a script.
 #![tactic(auto)]
 
 mod image;
+mod laws;
 mod lines;
 mod script;
 
 pub use image::{QUARTER, misplaced_word, task_image};
+pub use laws::grammar;
 pub use script::read_scripts;
