@@ -2,7 +2,7 @@
 // tkernel is to print: the device lines and the stop line. So the examples' outputs are compared with a machine
 // that has no part in common with tkernel, neither code nor authors of the instructions.
 //
-//     cc -O2 -o reference reference.c -lsimavr -lelf
+//     cc -O2 -o reference reference.c -lsimavr
 //     ./reference [--watch FOLDER] STEPS QUANTUM HEX-FILE [SCRIPT-FILE]
 //
 // Into the files lines, state, memory and profile of FOLDER it writes what the views of tkwatch are to show before the stop
