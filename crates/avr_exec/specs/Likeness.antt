@@ -1,7 +1,8 @@
 -- Serves proofs: words in which two executions are compared: over two spaces, and at two places of the program.
 use Rattle.std.specs.Prelude.{ℕ, Bool, true, false, not, ◌==◌, ◌||◌}
 use Rattle.avr_isa.specs.declared.form.Form.{Form}
-use Rattle.avr_isa.specs.declared.form.Form.TheVariants.{Cpse, LoadOff, StoreOff, LoadAt, StoreAt, Lds, Sts, Pop, Push, InIo, OutIo, Sbic, Sbis, Sbrc, Sbrs, Brbs, Brbc, Rjmp, Rcall, Jmp, Call, Ijmp, Icall, Ret}
+use Rattle.avr_isa.specs.declared.form.Form.TheVariants.{Cpse, LoadOff, StoreOff, LoadAt, StoreAt, Lds, Sts, Pop, Push, InIo, OutIo}
+use Rattle.avr_isa.specs.declared.form.Form.TheVariants.{Sbic, Sbis, Sbrc, Sbrs, Brbs, Brbc, Rjmp, Rcall, Jmp, Call, Ijmp, Icall, Ret}
 use Rattle.avr_isa.specs.declared.form.Form.TheVariants.{Reti, Sleep, Spm}
 use Rattle.avr_exec.specs.declared.cpu.Cpu.{Cpu}
 use Rattle.avr_isa.specs.IoTable.{io_address}

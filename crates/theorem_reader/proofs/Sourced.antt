@@ -41,8 +41,8 @@ unfolding statement_of operation_of operand_of register_of pointer_of number_of 
 faultless = refl
 
 its_words : AsmText source example.image
-unfolding statement_of operation_of operand_of register_of pointer_of number_of name_of is_name meaning_of is_valid fields_in_range is_undefined size_of the_form if_defined is_long one_word_form defined_form
-    io_form
+unfolding statement_of operation_of operand_of register_of pointer_of number_of name_of is_name meaning_of
+    is_valid fields_in_range is_undefined size_of the_form if_defined is_long one_word_form defined_form io_form
 its_words = (
   record { inside = omega arith; decoded = the_form_is_decoded 0xE00F 0xBB0B (omega arith) (omega arith) },
   (
