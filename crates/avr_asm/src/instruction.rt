@@ -186,23 +186,16 @@ pub(crate) fn of_register_and_number(
             (Some(d), Some(a)) => Form::InIo(d, a),
             _ => return Err(AsmFault::Range),
         },
-        Operation::Bld => match (Reg::new(d), bit(n)) {
-            (Some(r), Some(b)) => Form::Bld(r, b),
-            _ => return Err(AsmFault::Range),
+        _ => match (operation, Reg::new(d), bit(n)) {
+            (Operation::Bld, Some(r), Some(b)) => Form::Bld(r, b),
+            (Operation::Bst, Some(r), Some(b)) => Form::Bst(r, b),
+            (Operation::Sbrc, Some(r), Some(b)) => Form::Sbrc(r, b),
+            (Operation::Sbrs, Some(r), Some(b)) => Form::Sbrs(r, b),
+            (Operation::Bld | Operation::Bst | Operation::Sbrc | Operation::Sbrs, ..) => {
+                return Err(AsmFault::Range);
+            }
+            _ => return Err(AsmFault::Form),
         },
-        Operation::Bst => match (Reg::new(d), bit(n)) {
-            (Some(r), Some(b)) => Form::Bst(r, b),
-            _ => return Err(AsmFault::Range),
-        },
-        Operation::Sbrc => match (Reg::new(d), bit(n)) {
-            (Some(r), Some(b)) => Form::Sbrc(r, b),
-            _ => return Err(AsmFault::Range),
-        },
-        Operation::Sbrs => match (Reg::new(d), bit(n)) {
-            (Some(r), Some(b)) => Form::Sbrs(r, b),
-            _ => return Err(AsmFault::Range),
-        },
-        _ => return Err(AsmFault::Form),
     };
     ready(form)
 }
@@ -235,24 +228,15 @@ pub(crate) fn of_number_and_register(
 pub(crate) fn of_two_numbers(operation: Operation, a: u64, b: u64) -> Result<Statement, AsmFault>
     ensures value { result ≡ meaning_of operation (Two (Number a) (Number b)) }
 {
-    let form = match operation {
-        Operation::Branch(state) => return branch_to(state, a, b),
-        Operation::Cbi => match (low_io(a), bit(b)) {
-            (Some(a), Some(b)) => Form::Cbi(a, b),
-            _ => return Err(AsmFault::Range),
-        },
-        Operation::Sbi => match (low_io(a), bit(b)) {
-            (Some(a), Some(b)) => Form::Sbi(a, b),
-            _ => return Err(AsmFault::Range),
-        },
-        Operation::Sbic => match (low_io(a), bit(b)) {
-            (Some(a), Some(b)) => Form::Sbic(a, b),
-            _ => return Err(AsmFault::Range),
-        },
-        Operation::Sbis => match (low_io(a), bit(b)) {
-            (Some(a), Some(b)) => Form::Sbis(a, b),
-            _ => return Err(AsmFault::Range),
-        },
+    let form = match (operation, low_io(a), bit(b)) {
+        (Operation::Branch(state), ..) => return branch_to(state, a, b),
+        (Operation::Cbi, Some(a), Some(b)) => Form::Cbi(a, b),
+        (Operation::Sbi, Some(a), Some(b)) => Form::Sbi(a, b),
+        (Operation::Sbic, Some(a), Some(b)) => Form::Sbic(a, b),
+        (Operation::Sbis, Some(a), Some(b)) => Form::Sbis(a, b),
+        (Operation::Cbi | Operation::Sbi | Operation::Sbic | Operation::Sbis, ..) => {
+            return Err(AsmFault::Range);
+        }
         _ => return Err(AsmFault::Form),
     };
     ready(form)
@@ -338,12 +322,13 @@ pub(crate) fn of_register_and_pointer(
 fn load(d: u8, pointer: Pointer) -> Result<Statement, AsmFault>
     ensures value { result ≡ meaning_of operations.Ld (Two (Register d) (ByPointer pointer)) }
 {
-    let form = match (pointer, Reg::new(d), Six::new(0)) {
-        (Pointer::At(pointer), Some(d), _) => Form::LoadAt(d, pointer),
-        (Pointer::Alone(base), Some(d), Some(q)) => Form::LoadOff(d, base, q),
-        _ => return Err(AsmFault::Range),
-    };
-    ready(form)
+    match pointer {
+        Pointer::At(pointer) => match Reg::new(d) {
+            Some(d) => ready(Form::LoadAt(d, pointer)),
+            None => Err(AsmFault::Range),
+        },
+        Pointer::Alone(base) => of_register_and_displacement(Operation::Ldd, d, base, 0),
+    }
 }
 
 /// LPM or ELPM with operands.
@@ -369,13 +354,16 @@ pub(crate) fn of_pointer_and_register(
 ) -> Result<Statement, AsmFault>
     ensures value { result ≡ meaning_of operation (Two (ByPointer pointer) (Register r)) }
 {
-    let form = match (operation, pointer, Reg::new(r), Six::new(0)) {
-        (Operation::St, Pointer::At(pointer), Some(r), _) => Form::StoreAt(pointer, r),
-        (Operation::St, Pointer::Alone(base), Some(r), Some(q)) => Form::StoreOff(base, q, r),
-        (Operation::St, _, _, _) => return Err(AsmFault::Range),
-        _ => return Err(AsmFault::Form),
-    };
-    ready(form)
+    match (operation, pointer) {
+        (Operation::St, Pointer::At(pointer)) => match Reg::new(r) {
+            Some(r) => ready(Form::StoreAt(pointer, r)),
+            None => Err(AsmFault::Range),
+        },
+        (Operation::St, Pointer::Alone(base)) => {
+            of_displacement_and_register(Operation::Std, base, 0, r)
+        }
+        _ => Err(AsmFault::Form),
+    }
 }
 
 /// Of a register and a displacement.

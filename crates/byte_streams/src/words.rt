@@ -14,8 +14,9 @@ use std::io::ErrorKind;
 pub fn program_words(rt: &HostRuntime) -> Result<Vec<String>, NoMemory> {
     let mut words = Vec::new(rt.alloc());
     match env::args(rt) {
-        Ok(args) => {
-            for word in args.skip(1) {
+        Ok(mut args) => {
+            let _name = args.next();
+            for word in args {
                 if words.push(word).is_err() {
                     return Err(NoMemory);
                 }

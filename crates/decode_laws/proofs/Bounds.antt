@@ -1,5 +1,5 @@
 -- What the range of an instruction's operands says of them.
-use Rattle.std.proofs.Common.{ℕ, ◌<◌, ◌&&◌, IsTrue, arith}
+use Rattle.std.proofs.Common.{◌≡◌, ℕ, ◌+◌, ◌-◌, ◌*◌, ◌/◌, ◌<◌, ◌&&◌, IsTrue, arith}
 use Rattle.std.proofs.lemmas.Bool.{and_parts}
 use Rattle.std.proofs.lemmas.Bool.Decides.{nat_tests}
 use Rattle.std.specs.Prelude.{nat_lt}
@@ -19,15 +19,15 @@ both_below n m a b h =
     let parts = and_parts _ _ h in
     (is_below n a parts.0, is_below m b parts.1)
 
-pub even_below : (d r : ℕ) → IsTrue (two_pairs 0 d r).in_range → (d < 32) × (r < 32)
-even_below d r h =
-    let parts = and_parts _ _ h in
-    (is_below 32 d (and_parts _ _ parts.0).0, is_below 32 r (and_parts _ _ parts.1).0)
+-- one of the first `n` numbers from `low` on, each `step` above the last
+abbrev pub Among : (low step n a : ℕ) → Type 0
+Among low step n a = (i : ℕ) × (i < n) × (low + step * i ≡ a)
 
-pub high_below : (high opcode d r : ℕ) → IsTrue (two_high_registers high opcode d r).in_range → (d < high) × (r < high)
-high_below high opcode d r h =
-    let parts = and_parts _ _ h in
-    (is_below high d (and_parts _ _ parts.0).1, is_below high r (and_parts _ _ parts.1).1)
+pub even_among : (d r : ℕ) → IsTrue (two_pairs 0 d r).in_range → Among 0 2 16 d × Among 0 2 16 r
+even_among d r h = ((d / 2, grind (arith, nat_tests), grind (arith, nat_tests)), (r / 2, grind (arith, nat_tests), grind (arith, nat_tests)))
 
-pub pair_and_below : (opcode p k : ℕ) → IsTrue (pair_and_six_bits opcode p k).in_range → (p < 32) × (k < 64)
-pair_and_below opcode p k h = (grind (arith, nat_tests), is_below 64 k (and_parts _ _ h).1)
+pub high_among : (n opcode d r : ℕ) → IsTrue (two_high_registers (16 + n) opcode d r).in_range → Among 16 1 n d × Among 16 1 n r
+high_among n opcode d r h = ((d - 16, grind (arith, nat_tests), grind (arith, nat_tests)), (r - 16, grind (arith, nat_tests), grind (arith, nat_tests)))
+
+pub pair_among : (opcode p k : ℕ) → IsTrue (pair_and_six_bits opcode p k).in_range → Among 24 2 4 p × Among 0 1 64 k
+pair_among opcode p k h = (((p - 24) / 2, grind (arith, nat_tests), grind (arith, nat_tests)), (k, grind (arith, nat_tests), omega arith))

@@ -17,10 +17,10 @@ use Rattle.avr_isa.specs.Encoding.{first_word, second_word}
 use Rattle.avr_decode.specs.Decoding.{the_form, is_long, two_word_form, one_word_form, product_form, move_or_product_form, form_0000, form_0001, form_0010, displaced_form, load_form, store_form}
 use Rattle.avr_decode.specs.Decoding.{plain_form, flag_or_plain_form, one_register_form, register_or_pair_form, io_bit_form, transfer_form, form_1001, io_form, register_bit_form, form_1111}
 use Rattle.avr_decode.specs.Decoding.{defined_form, if_defined}
-use Rattle.decode_laws.proofs.Bounds.{both_below, even_below, high_below, is_below, pair_and_below}
+use Rattle.decode_laws.proofs.Bounds.{both_below, even_among, fields_fit, high_among, is_below, pair_among}
 use Rattle.decode_laws.proofs.Leading.{brbs_complete, brbc_complete, cbi_complete, sbic_complete, sbi_complete, sbis_complete, load_displaced_complete, store_displaced_complete, cpse_complete}
 use Rattle.decode_laws.proofs.Leading.{immediate_complete, in_complete, out_complete, rcall_complete, rjmp_complete, two_complete}
-use Rattle.decode_laws.proofs.Tables.{by_one, by_two}
+use Rattle.decode_laws.proofs.Tables.{by_one, by_places, by_two}
 
 -- each valid form is what its first word means, before its second
 pub complete : (f : Form) (w : ℕ) → IsTrue (is_valid f) → MatchOption (second_word f) ⊤ (λ a. w ≡ a) → the_form (first_word f) w ≡ Some f
@@ -28,15 +28,15 @@ unfolding the_form is_long two_word_form one_word_form product_form move_or_prod
     store_form plain_form flag_or_plain_form one_register_form register_or_pair_form io_bit_form transfer_form form_1001 io_form register_bit_form
     form_1111 defined_form if_defined first_word is_valid fields_in_range is_undefined second_word
 complete Nop w valid second = refl
-complete (Movw d r) w valid second = by_two 32 32 (λ d r. Movw d r) w refl d r (even_below d r) valid
-complete (Muls d r) w valid second = by_two 32 32 (λ d r. Muls d r) w refl d r (high_below 32 0x0200 d r) valid
-complete (Product Mulsu d r) w valid second = by_two 24 24 (λ d r. Product Mulsu d r) w refl d r (high_below 24 (product_opcode Mulsu) d r) valid
-complete (Product op d r) w valid second = by_two 24 24 (λ d r. Product op d r) w refl d r (high_below 24 (product_opcode op) d r) valid
+complete (Movw d r) w valid second = by_places 0 2 16 0 2 16 (λ d r. Movw d r) w refl d r (even_among d r (fields_fit (Movw d r) valid)) valid
+complete (Muls d r) w valid second = by_places 16 1 16 16 1 16 (λ d r. Muls d r) w refl d r (high_among 16 0x0200 d r (fields_fit (Muls d r) valid)) valid
+complete (Product Mulsu d r) w valid second = by_places 16 1 8 16 1 8 (λ d r. Product Mulsu d r) w refl d r (high_among 8 (product_opcode Mulsu) d r (fields_fit (Product Mulsu d r) valid)) valid
+complete (Product op d r) w valid second = by_places 16 1 8 16 1 8 (λ d r. Product op d r) w refl d r (high_among 8 (product_opcode op) d r (fields_fit (Product op d r) valid)) valid
 complete (Two op d r) w valid second = two_complete op d r w valid
 complete (Cpse d r) w valid second = cpse_complete d r w valid
 complete (Imm op d k) w valid second = immediate_complete op d k w valid
-complete (Word Adiw p k) w valid second = by_two 32 64 (λ p k. Word Adiw p k) w refl p k (pair_and_below (word_opcode Adiw) p k) valid
-complete (Word Sbiw p k) w valid second = by_two 32 64 (λ p k. Word Sbiw p k) w refl p k (pair_and_below (word_opcode Sbiw) p k) valid
+complete (Word Adiw p k) w valid second = by_places 24 2 4 0 1 64 (λ p k. Word Adiw p k) w refl p k (pair_among (word_opcode Adiw) p k (fields_fit (Word Adiw p k) valid)) valid
+complete (Word Sbiw p k) w valid second = by_places 24 2 4 0 1 64 (λ p k. Word Sbiw p k) w refl p k (pair_among (word_opcode Sbiw) p k (fields_fit (Word Sbiw p k) valid)) valid
 complete (One Com d) w valid second = by_one 32 (λ d. One Com d) w refl d (is_below 32 d) valid
 complete (One op d) w valid second = by_one 32 (λ d. One op d) w refl d (is_below 32 d) valid
 complete (LoadOff d base q) w valid second = load_displaced_complete base d q w valid

@@ -1,11 +1,11 @@
 -- A claim about each number below a bound, by computing it at all of them.
-use Rattle.std.proofs.Common.{◌≡◌, ℕ, zero, suc, ◌<◌, Bool, true, cond, ◌&&◌, List, [], ◌∷◌, Option, Some, None, IsTrue, ◌⊎◌, inl, inr, arith}
+use Rattle.std.proofs.Common.{◌≡◌, sym, ℕ, zero, suc, ◌+◌, ◌*◌, ◌<◌, Bool, true, cond, ◌&&◌, List, [], ◌∷◌, Option, Some, None, IsTrue, ◌⊎◌, inl, inr, arith}
 use Rattle.std.proofs.lemmas.Bool.{and_parts}
 use Rattle.avr_isa.specs.declared.form.Form.{Form}
 use Rattle.avr_isa.specs.Instruction.{fields_in_range, is_valid}
 use Rattle.avr_isa.specs.Encoding.{first_word}
 use Rattle.avr_decode.specs.Decoding.{the_form}
-use Rattle.decode_laws.proofs.Bounds.{fields_fit}
+use Rattle.decode_laws.proofs.Bounds.{Among, fields_fit}
 
 -- the values of a function at the numbers below a bound
 abbrev pub table : {A : Type 0} → ℕ → (ℕ → A) → List A
@@ -54,3 +54,11 @@ pub by_two : (n m : ℕ) (form : ℕ → ℕ → Form) (w : ℕ) → table n (λ
 by_two n m form w same a b bounds valid =
     let within : (a < n) × (b < m) = bounds (fields_fit (form a b) valid) in
     by_one m (form a) w (table-same n (λ a. table m (meaning (form a) w)) (λ a. table m (itself (form a))) same a within.0) b (λ fits. within.1) valid
+
+-- two operands, each among numbers that are computed from their places
+pub by_places : (low step n from by m : ℕ) (form : ℕ → ℕ → Form) (w : ℕ)
+    → table n (λ i. table m (meaning (λ j. form (low + step * i) (from + by * j)) w)) ≡ table n (λ i. table m (itself (λ j. form (low + step * i) (from + by * j))))
+    → (a b : ℕ) → Among low step n a × Among from by m b → IsTrue (is_valid (form a b)) → the_form (first_word (form a b)) w ≡ Some (form a b)
+by_places low step n from by m form w same a b ((i, below, is), (j, under, also)) valid =
+    let fits = rw (sym is, sym also) at valid in
+    rw (sym is, sym also) (by_two n m (λ i j. form (low + step * i) (from + by * j)) w same i j (λ fits. (below, under)) fits)

@@ -1,6 +1,6 @@
 -- A dump that is read line by line.
 use Rattle.std.proofs.Common.{◌≡◌, ℕ, ◌+◌, ◌*◌, ◌<◌, ◌≤◌, false, cond, eqb, true, List, ◌∷◌, length, arith, refl, sym, ap, ◌∙◌}
-use Rattle.std.specs.Prelude.{nat_le, nat_lt, None}
+use Rattle.std.specs.Prelude.{nat_le, nat_lt, Some, None}
 use Rattle.std.proofs.lemmas.Bool.{and_parts, eqb-true}
 use Rattle.std.proofs.lemmas.Bool.Decides.{nat_tests}
 use Rattle.std.proofs.lemmas.Grind.{same_number_lists}
@@ -14,7 +14,7 @@ use Rattle.flash_words.proofs.PageLaws.{page_word, length-page_of, length-set_pa
 use Rattle.text_lines.specs.Lines.{lines_of}
 use Rattle.text_lines.specs.Faults.{after_lines, first_fault}
 use Rattle.text_lines.proofs.FaultLaws.{fault_behind, not_found}
-use Rattle.flash_dump.specs.declared.dump_line.DumpFault.TheVariants.{Order, Range}
+use Rattle.flash_dump.specs.declared.dump_line.DumpFault.TheVariants.{Form, Order, Range}
 use Rattle.flash_dump.specs.DumpLines.{fault_at, has_page, next_page, page_fault, page_in, with_line, word_digits, words_in}
 use Rattle.flash_dump.specs.Dumps.{IsOpen, IsReadTo, IsTaken, erased}
 
@@ -68,6 +68,14 @@ taken_page line least page words old new has page_is words_are from below open' 
       };
       low = omega arith;
     }
+
+-- an empty line
+pub taken_none : (line : List ℕ) (least : ℕ) (flash : Memory) → eqb (length line) 0 ≡ true → IsOpen flash least → least ≤ 512 → IsTaken line least least flash flash
+taken_none line least flash none open' low = record { sound = rw none refl; after_is = rw none refl; words_are = rw none refl; is_open = open'; low = low }
+
+-- a line without the form of one
+pub fault_of_form : (least : ℕ) (line : List ℕ) → eqb (length line) 0 ≡ false → has_page line ≡ false → fault_at least line ≡ Some Form
+fault_of_form least line some other = rw (some, other) refl
 
 -- one line more of the text
 pub read_more : (text rest line behind : List ℕ) (least after number : ℕ) (old new : Memory) → IsReadTo text rest least number old → lines_of rest ≡ line ∷ lines_of behind

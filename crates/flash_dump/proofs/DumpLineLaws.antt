@@ -66,10 +66,16 @@ told_page line size front space number words =
     let space_is : (slice_index line 8 == 32) ≡ true = grind (arith, nat_tests) in
     rw (size_is, front, space_is, all_digits 10 (number_digits line) number) (all_digits 16 (drop 9 line) words)
 
--- .. and one whose words have another byte
+-- .. and one whose number, or words, have another byte
+other_first : (first last : Bool) → first ≡ false → (first && last) ≡ false
+other_first first last is = ap (λ b. b && last) is
+
 other_last : (first last : Bool) → last ≡ false → (first && last) ≡ false
 other_last true last is = is
 other_last false last is = refl
 
 pub other_words : (line : List ℕ) → ¬ AllDigits 16 (drop 9 line) → has_page line ≡ false
 other_words line none = other_last _ _ (some_other 16 (drop 9 line) none)
+
+pub other_number : (line : List ℕ) → ¬ AllDigits 10 (number_digits line) → has_page line ≡ false
+other_number line none = other_first _ _ (other_last _ _ (some_other 10 (number_digits line) none))

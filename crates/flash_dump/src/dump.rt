@@ -30,7 +30,10 @@ pub fn read_dump(alloc: Global, text: &[u8]) -> Result<Flash, DumpError>
     ensures sound { IfOk result (λ flash. (flash.failing ≡ []) × (flash.ops ≡ 0) × (flash.refused ≡ None) × (flash.erases ≡ many page_count 0)) }
     ensures bad { IfErr result (IsRefusal text.now) }
 {
-    let mut flash = erased(alloc).map_err(|_| DumpError::NoMemory)?;
+    let mut flash = match erased(alloc) {
+        Ok(flash) => flash,
+        Err(NoMemory) => return Err(DumpError::NoMemory),
+    };
     let mut rest = text;
     let mut number = 0;
     let mut least = 0;

@@ -1,6 +1,6 @@
 //! What a line says by itself.
 ghost use Rattle.std.specs.Prelude.{◌≡◌, ◌<◌, ◌≤◌, ◌%◌, ◌∷◌, true, length, sum, IfErr, IfOk, MatchResult, Some};
-ghost use Rattle.std.specs.List.{AllPass};
+ghost use Rattle.std.specs.List.{AllPass, list_all};
 ghost use Rattle.hex.specs.Hex.{is_hex_digit};
 ghost use Rattle.hex_image.specs.Kinds.{code_of};
 ghost use Rattle.hex_image.specs.Lines.{has_right_count, word_in};
@@ -66,18 +66,18 @@ fn digits_of(line: &[u8]) -> Result<&[u8], HexFault>
     let [b':', digits @ ..] = line else {
         return Err(HexFault::Start);
     };
-    if digits.iter().all(|digit| is_hex_digit(*digit)) {
+    if are_hex_digits(digits) {
         Ok(digits)
     } else {
         Err(HexFault::Digit)
     }
 }
 
-/// Whether a byte is a digit, in either case.
-fn is_hex_digit(digit: u8) -> bool
-    ensures value { result ≡ is_hex_digit digit }
+/// Whether all the bytes are digits, in either case.
+fn are_hex_digits(bytes: &[u8]) -> bool
+    ensures value { result ≡ list_all is_hex_digit bytes.now }
 {
-    digit.is_ascii_hexdigit()
+    bytes.iter().all(|byte| byte.is_ascii_hexdigit())
 }
 
 /// What the record says that these digits spell behind a colon.

@@ -62,14 +62,15 @@ impl Script {
             Ok(Statement::Nothing) => Ok(()),
             Ok(Statement::At { number, input }) => {
                 let at = number as u32;
-                self.events
-                    .push(Event { at, input })
-                    .map_err(|_| ScriptError::NoMemory)
+                match self.events.push(Event { at, input }) {
+                    Ok(()) => Ok(()),
+                    Err(_) => Err(ScriptError::NoMemory),
+                }
             }
-            Ok(Statement::FailFlash { number }) => self
-                .failing
-                .push(number as u32)
-                .map_err(|_| ScriptError::NoMemory),
+            Ok(Statement::FailFlash { number }) => match self.failing.push(number as u32) {
+                Ok(()) => Ok(()),
+                Err(_) => Err(ScriptError::NoMemory),
+            },
             Err(fault) => Err(ScriptError::Bad { line, fault }),
         }
     }

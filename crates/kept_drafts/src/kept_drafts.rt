@@ -55,11 +55,13 @@ impl Room {
 
     /// The number of the draft that was made for the address, if it is kept.
     fn number_of(&self, t: u16) -> Option<usize> {
-        let number = usize::from(*self.numbers.get(usize::from(t))?).checked_sub(1)?;
-        if self.drafts.get(number)?.first() == t {
-            Some(number)
-        } else {
-            None
+        let noted = match self.numbers.get(usize::from(t)) {
+            Some(noted) if *noted > 0 => usize::from(*noted),
+            _ => return None,
+        };
+        match self.drafts.get(noted - 1) {
+            Some(draft) if draft.first() == t => Some(noted - 1),
+            _ => None,
         }
     }
 

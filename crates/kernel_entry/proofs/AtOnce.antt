@@ -262,6 +262,10 @@ lpm_is k left d z value inc cpu there read after raised =
     z_put k left d inc cpu (after ∙ ap (λ v. put_back k (with_register (core_here k) d v) (memory_of k)) (read ∙ ap (byte (image_held k)) there))
     (raised ∙ ap (with_z_raised_if left.mote.cpu inc) there)
 
+-- the instruction at an address that is the descriptor's
+pub instruction_is : (k : Kernel) (at : ℕ) (kept told form : Form) → at ≡ descriptor k → instruction_at (image_held k) at ≡ Some kept → told ≡ kept → told ≡ form → instruction k ≡ Some form
+instruction_is k at kept told form there is held found = sym (ap (instruction_at (image_held k)) there) ∙ is ∙ ap Some (sym held ∙ found)
+
 -- an instruction that reads no word of the program may be executed, and LPM where nothing is shut
 pub done_by : (k next : Kernel) (form : Form) (pc : ℕ) → instruction k ≡ Some form → reads_program form ≡ false → WentOn k form pc next → IsExecuted k next
 done_by k next form pc is apart went = record {

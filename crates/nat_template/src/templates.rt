@@ -113,10 +113,10 @@ fn mem(pc: u16, instr: Option<&Instr>) -> ArrayVec<Piece, 40>
 {
     match instr {
         Some(instr) => match instr.form() {
-            Form::Push(r) => inline_or_mem(*r, &push_words(*r), pc),
-            Form::Pop(d) => inline_or_mem(*d, &pop_words(*d), pc),
-            Form::LoadOff(d, Base::Y, q) => inline_or_mem(*d, &load_words(*d, *q), pc),
-            Form::StoreOff(Base::Y, q, r) => inline_or_mem(*r, &store_words(*q, *r), pc),
+            Form::Push(r) => inline_or_mem(*r, push_words(*r), pc),
+            Form::Pop(d) => inline_or_mem(*d, pop_words(*d), pc),
+            Form::LoadOff(d, Base::Y, q) => inline_or_mem(*d, load_words(*d, *q), pc),
+            Form::StoreOff(Base::Y, q, r) => inline_or_mem(*r, store_words(*q, *r), pc),
             _ => call_of(MEM, pc),
         },
         None => call_of(MEM, pc),
@@ -124,14 +124,13 @@ fn mem(pc: u16, instr: Option<&Instr>) -> ArrayVec<Piece, 40>
 }
 
 /// These words, which use Z, or a call of the kernel where the register is one of Z's.
-fn inline_or_mem(register: Reg, words: &[u16], pc: u16) -> ArrayVec<Piece, 40>
-    requires room { length words.now ≤ 38 }
-    ensures pieces { result.items ≡ if is_z_test register then service_of mem_entry pc else map (λ word. Piece.Fixed word) words.now ++ Piece.Fixed pc ∷ [] }
+fn inline_or_mem(register: Reg, words: ArrayVec<u16, 38>, pc: u16) -> ArrayVec<Piece, 40>
+    ensures pieces { result.items ≡ if is_z_test register then service_of mem_entry pc else map (λ word. Piece.Fixed word) words.items ++ Piece.Fixed pc ∷ [] }
 {
     if is_z(register) {
         call_of(MEM, pc)
     } else {
-        with_pc(words, pc)
+        with_pc(&words, pc)
     }
 }
 

@@ -103,5 +103,8 @@ fn tasks_at_boot(
 fn add(task: Task, tasks: &mut Vec<Task>) -> Result<(), NoMemory>
     ensures added { IfOk result (λ done. tasks.new.items ≡ tasks.old.items ++ task ∷ []) }
 {
-    tasks.push(task).map_err(|_| NoMemory)
+    match tasks.push(task) {
+        Ok(()) => Ok(()),
+        Err(_) => Err(NoMemory),
+    }
 }

@@ -40,7 +40,9 @@ pub fn task_image(alloc: Global, image: &Image, count: u8) -> Result<Image, NoMe
 {
     let mut words = Vec::new(alloc);
     'words: for address in 0..QUARTER * u16::from(count) {
-        words.push(image.word(address)).map_err(|_| NoMemory)?;
+        if words.push(image.word(address)).is_err() {
+            return Err(NoMemory);
+        }
     }
     Image::from_words(alloc, words.as_slice())
 }

@@ -45,7 +45,11 @@ pub fn read_scripts(alloc: Global, text: &[u8], count: u8) -> Result<Vec<Script>
     let mut first = formless(text, count);
     'tasks: for task in 0..count {
         match read_task(alloc, text, task) {
-            Ok(script) => scripts.push(script).map_err(|_| ScriptError::NoMemory)?,
+            Ok(script) => {
+                if scripts.push(script).is_err() {
+                    return Err(ScriptError::NoMemory);
+                }
+            }
             Err(ScriptError::Bad { line, fault }) => {
                 first = Some(earlier(first, BadLine { line, fault }));
             }

@@ -91,10 +91,10 @@ pub advanced_enter : (old now new : Machine) (i n : ℕ) (before after : Option 
 advanced_enter old now new i n before after result end going whole below between entered (Entering.In ready free inside untaken) is = absurd (cc)
 advanced_enter old now new i n before after result end going whole below between entered (Entering.Out over kept outside) is =
     let e : ends.Wild now.at ≡ end = cc in
-    rw e at (by_wild n now.at going whole (omega arith) refl between outside entered kept over)
+    subst (λ x. HasAdvanced old new n before after (Ok x)) e (by_wild n now.at going whole (omega arith) refl between outside entered kept over)
 advanced_enter old now new i n before after result end going whole below between entered (Entering.Failed op over kept inside fault) is =
     let e : ends.Flash op ≡ end = cc in
-    rw e at (by_failed n going whole below between inside entered kept over fault)
+    subst (λ x. HasAdvanced old new n before after (Ok x)) e (by_failed n going whole below between inside entered kept over fault)
 
 -- in the middle of a turn
 pub record IsIn (old now : Machine) (i : ℕ) (before after : Option (List ℕ)) : Type 0 where

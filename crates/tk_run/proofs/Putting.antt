@@ -1,5 +1,5 @@
 -- What steps leave, once all their lines are put.
-use Rattle.std.proofs.Common.{ℕ, ◌-◌, ◌≤◌, List, [], sym, arith, append-nil}
+use Rattle.std.proofs.Common.{ℕ, ◌-◌, ◌≤◌, List, [], sym, arith, append-nil, subst}
 use Rattle.std.specs.Prelude.{is_err, Option, Result, Ok, Err}
 use Rattle.std.specs.Io.KnownBytes.{Appends}
 use Rattle.byte_streams.specs.Faults.{Rose}
@@ -56,5 +56,5 @@ pub advanced_made : (result : Result End Failed) (old new : Machine) (n : ℕ) (
     → HasAdvanced old (record new { broken = is_err result }) n before after result
 advanced_made (Ok end) old new n before after text =
     let advanced = advanced_whole old new n end text.text before after text.advanced (all_on text.text [] before after after text.sent (appends-nothing after)) in
-    rw advanced.broken at advanced
+    subst (λ broken. HasAdvanced old (record new { broken = broken }) n before after (Ok end)) advanced.broken advanced
 advanced_made (Err e) old new n before after cut = cut

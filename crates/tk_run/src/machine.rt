@@ -102,10 +102,10 @@ impl Machine {
         ensures booted { IfOk result (λ m. m ≡ booted image.now script options.quantum options.swap) }
         ensures kept { IfOk result (λ m. IsKept m) }
     {
+        let cursor = Cursor::boxed(alloc)?;
         let mut mote = Mote::new(alloc, image.words(), script, options.swap)?;
         mote.sram.set_count(options.quantum);
         let layout = Layout::of(image.len_words());
-        let cursor = Cursor::boxed(alloc)?;
         Ok(Machine::begun(mote, layout, options.quantum, 0, Some(cursor)))
     }
 

@@ -1,5 +1,5 @@
 use Rattle.std.proofs.Common.{sym, ◌∙◌, arith, rules}
-use Rattle.flash_dump.proofs.DumpLineLaws.{number_fits, other_words, told_page}
+use Rattle.flash_dump.proofs.DumpLineLaws.{number_fits, other_number, other_words, told_page}
 use Rattle.flash_dump.proofs.dump_line.page_line_in.Goals as goal
 
 pub overflow_cast-result : goal.overflow_cast-result
@@ -16,3 +16,6 @@ returns c = record {
 
 pub returns-in_err-words : goal.returns-in_err-words
 returns-in_err-words c = rw c.from_residual-in_err-words.ensures (record { cases = other_words c.args.line.now c.in_err-words.ensures.cases })
+
+pub returns-in_err-page : goal.returns-in_err-page
+returns-in_err-page c = rw c.from_residual.ensures (record { cases = other_number c.args.line.now c.in_err-page.ensures.cases })

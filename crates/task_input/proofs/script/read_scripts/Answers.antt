@@ -6,7 +6,7 @@ use Rattle.input_script.specs.Script.{Schedule}
 use Rattle.task_input.specs.declared.script.BadLine.{BadLine}
 use Rattle.task_input.specs.Reading.{IsFar, earlier}
 use Rattle.task_input.proofs.FirstFaults.{far_fine, far_bad, far_end, far_schedules, schedules_apart, schedules_one, first_one, none_fail, pair_of}
-use Rattle.task_input.proofs.script.read_scripts.Goals.{in-Ok+in_ok-map_err-in-Ok, in-Err-Bad}
+use Rattle.task_input.proofs.script.read_scripts.Goals.{in-Ok+else-is_err, in-Err-Bad}
 use Rattle.task_input.proofs.script.read_scripts.Goals as goal
 
 pub tasks-preserved : goal.tasks-preserved
@@ -15,7 +15,7 @@ tasks-preserved c =
     let next = c.tasks.task + 1 in
     let P : Option BadLine → List Schedule → Type 0 = λ first schedules. IsFar c.args.count text next first schedules in
     elim c.match-read_task.branch [
-      | in-Ok+in_ok-map_err-in-Ok w ↦
+      | in-Ok+else-is_err w ↦
           let pushed : w.push.new.self.items ≡ c.tasks.scripts.items ++ w.in-Ok.script ∷ [] = grind (arith, common_steps) in
           let far = far_fine c.args.count text c.tasks.task c.tasks.first c.tasks.scripts.items w.push.new.self.items w.in-Ok.script c.tasks.invariant c.tasks-test.true w.in-Ok.ensures.ok pushed in
           subst (λ f. P f c.match-read_task.scripts.items) (sym w.first-is) (subst (P c.tasks.first) (sym (ap (λ v. v.items) w.scripts-is)) far)
