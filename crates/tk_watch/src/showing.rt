@@ -59,11 +59,11 @@ pub(crate) fn started(
         quantum: options.quantum,
         swap: options.swap,
     };
-    let mut machine = Machine::boot(alloc, image, script, asked)?;
-    let Some(cursor) = machine.take_cursor() else {
+    let Ok(counts) = no_counts(alloc) else {
         return Err(NoMemory);
     };
-    let Ok(counts) = no_counts(alloc) else {
+    let mut machine = Machine::boot(alloc, image, script, asked)?;
+    let Some(cursor) = machine.take_cursor() else {
         return Err(NoMemory);
     };
     Ok(Start {

@@ -35,6 +35,9 @@ returns-then-taken-eq0-clause-bytes g c =
     (record { left = c.in-Ok.ensures.bytes.0; given = c.in-Ok.ensures.gives }) in
     (grind (arith, common_steps, c.loop-bytes.invariant.within), gives_no_more _ _ _ _ c.loop-bytes.invariant.taken more, search rules)
 
+pub returns-then-taken-eq0-clause-cause : goal.returns-then-taken-eq0-clause-cause
+returns-then-taken-eq0-clause-cause g c = search rules
+
 pub loop-bytes-preserved : goal.loop-bytes-preserved
 loop-bytes-preserved g c =
     let ok = c.is_err.ensures.negation ∙ ap not c.if-is_err.false in

@@ -1,4 +1,4 @@
-use Rattle.std.proofs.Common.{◌≡◌, ◌+◌, ◌*◌, ◌∷◌, ◌++◌, [], map, ap, ◌∙◌, sym, arith}
+use Rattle.std.proofs.Common.{◌≡◌, ◌+◌, ◌*◌, ◌∷◌, ◌++◌, [], map, ap, ◌∙◌, sym, arith, rules}
 use Rattle.std.specs.Prelude.{flat_map}
 use Rattle.std.specs.List.{range_with_len}
 use Rattle.std.proofs.lemmas.Grind.{flat_map-append}
@@ -21,3 +21,6 @@ records-preserved c =
     ∙ ap (λ z. z ++ fed (record_line 0 (16 * c.records.number) c.as_slice.result.now)) c.records.invariant
     ∙ ap (λ z. flat_map fed before ++ fed (record_line 0 (16 * c.records.number) z)) content
     ∙ sym more
+
+pub returns : goal.returns
+returns c = search rules

@@ -1,7 +1,10 @@
-use Rattle.std.proofs.Common.{arith}
+use Rattle.std.proofs.Common.{arith, rules}
 use Rattle.pool_check.proofs.LinkTests.{is_so_not}
 use Rattle.pool_check.proofs.CheckedLaws.{checked_code, code_forms, code_links}
 use Rattle.pool_check.proofs.checking.check.Goals as goal
+
+pub returns-then-not-page_form-clause-verdict : goal.returns-then-not-page_form-clause-verdict
+returns-then-not-page_form-clause-verdict c = search rules
 
 pub returns-then-not-page_form-clause-faithful : goal.returns-then-not-page_form-clause-faithful
 returns-then-not-page_form-clause-faithful c = λ code.
