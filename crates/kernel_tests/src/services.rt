@@ -199,7 +199,7 @@ fn told_stop(stop: Stop) -> Told {
 }
 
 /// Entry, address and SP; the answer, and what is left. A return finds what an earlier call pushed.
-const WINDOW: [(u16, u16, u16, Told, (u16, u8, u8)); 11] = [
+static WINDOW: [(u16, u16, u16, Told, (u16, u8, u8)); 11] = [
     (PUSH_RETURN, 2, 0x0CFF, ("stack", 2, 0x0CFF), (0x0CFF, 0, 3)),
     (PUSH_RETURN, 2, 0x0D00, ("stack", 2, 0x0CFF), (0x0D00, 0, 3)),
     (PUSH_RETURN, 2, 0x0D01, ON, (0x0CFF, 0, 3)),
@@ -216,20 +216,20 @@ const WINDOW: [(u16, u16, u16, Told, (u16, u8, u8)); 11] = [
 #[test]
 fn calls_and_returns_use_the_stack_window(rt: HostRuntime) -> Result<(), Fail> {
     let mut k = Box::new(rt.alloc(), kernel_at_boot(&rt, 0)?)?;
-    for (entry, at, sp, want, after) in WINDOW {
+    for (entry, at, sp, want, after) in &WINDOW {
         let call = Call {
-            entry,
-            at,
-            sp,
+            entry: *entry,
+            at: *at,
+            sp: *sp,
             sreg: 0,
         };
-        is_served(&rt, &mut k, call, want, after);
+        is_served(&rt, &mut k, call, *want, *after);
     }
     Ok(())
 }
 
 /// Entry, address and SREG; the answer, and SREG and COUNT then. QUANTUM gives r24 and SREG back.
-const ENDS: [(u16, u16, u8, Told, u8, u8); 9] = [
+static ENDS: [(u16, u16, u8, Told, u8, u8); 9] = [
     (SELF, 7, 0x7F, ("halted", 7, 0), 0x7F, 3),
     (SELF, 7, 0x80, ("goto", 7, 0), 0x80, 2),
     (FAULT, 8, 0, ("asleep", 8, 0), 0, 3),
@@ -244,14 +244,14 @@ const ENDS: [(u16, u16, u8, Told, u8, u8); 9] = [
 #[test]
 fn ends_and_steps_of_the_kernel(rt: HostRuntime) -> Result<(), Fail> {
     let mut k = Box::new(rt.alloc(), kernel_at_boot(&rt, 0)?)?;
-    for (entry, at, sreg, want, sreg_after, count) in ENDS {
+    for (entry, at, sreg, want, sreg_after, count) in &ENDS {
         let call = Call {
-            entry,
-            at,
+            entry: *entry,
+            at: *at,
             sp: 0,
-            sreg,
+            sreg: *sreg,
         };
-        is_served(&rt, &mut k, call, want, (0, sreg_after, count));
+        is_served(&rt, &mut k, call, *want, (0, *sreg_after, *count));
     }
     assert!(rt; k.mote.cpu.r[24] == 0x5A);
     Ok(())
@@ -332,7 +332,7 @@ fn accessed(rt: &impl Abort, k: &mut Kernel, at: u16, pointer: u16, sp: u16) -> 
 }
 
 /// Address, pointer and SP; the answer, r17 and SP then. One page has a slot.
-const ACCESSES: [(u16, u16, u16, Told, u8, u16); 18] = [
+static ACCESSES: [(u16, u16, u16, Told, u8, u16); 18] = [
     (13, 0, 0, ON, 0, 0),
     (15, 0, 0, ON, 0x77, 0),
     (17, 0x0200, 0, ("swap", 17, 0x0200), 0, 0),
@@ -375,8 +375,8 @@ fn has_gone_on(rt: &impl Abort, k: &Kernel, at: u16, r17: u8, sp: u16, pc: u16) 
 #[test]
 fn loads_and_stores_reach_the_programs_memory(rt: HostRuntime) -> Result<(), Fail> {
     let mut k = Box::new(rt.alloc(), kernel_at_boot(&rt, 1)?)?;
-    for access in ACCESSES {
-        is_accessed(&rt, &mut k, access);
+    for access in &ACCESSES {
+        is_accessed(&rt, &mut k, *access);
     }
     assert!(rt; k.mote.cpu.r[18] == 0x93);
     assert!(rt; k.mote.cpu.r[20] == 0x93);

@@ -34,7 +34,7 @@ fn each_task_has_its_own_events(rt: HostRuntime) -> Result<(), Fail> {
 }
 
 /// Scripts of two tasks, the line that is refused, and why.
-const FAULTY: [(&[u8], u32, ScriptFault); 13] = [
+static FAULTY: [(&[u8], u32, ScriptFault); 13] = [
     (b"at 5 int 3", 1, ScriptFault::Form),
     (b"task 2 at 5 int 3", 1, ScriptFault::Form),
     (b"task 4 at 5 int 3", 1, ScriptFault::Form),
@@ -64,7 +64,8 @@ const FAULTY: [(&[u8], u32, ScriptFault); 13] = [
 
 #[test]
 fn the_first_faulty_line_of_all(rt: HostRuntime) {
-    for (text, line, fault) in FAULTY {
+    for (text, line, fault) in &FAULTY {
+        let (line, fault) = (*line, *fault);
         assert!(rt; refusal(&rt, rt.alloc(), text) == Some(ScriptError::Bad { line, fault }));
     }
 }

@@ -12,7 +12,7 @@ const COUNTED: [u16; 22] = [
 ];
 
 /// An address, a word and the one behind it, and the template.
-const STUBS: [(u16, u16, u16, &[u16]); 10] = [
+static STUBS: [(u16, u16, u16, &[u16]); 10] = [
     (0, 0xE003, 0x950A, &[0xE003]),
     (16, 0x93EF, 0xFFFF, &[0x940E, 0xF004, 16]),
     (16, 0xB70D, 0xFFFF, &[0x940E, 0xF004, 16]),
@@ -28,8 +28,8 @@ const STUBS: [(u16, u16, u16, &[u16]); 10] = [
 /// One template of each shape, beside branch and skip.
 #[test]
 fn templates_of_one_call_or_stub(rt: HostRuntime) {
-    for (pc, first, second, words) in STUBS {
-        assert!(rt; template(pc, first, second, 1).as_slice() == words);
+    for (pc, first, second, words) in &STUBS {
+        assert!(rt; template(*pc, *first, *second, 1).as_slice() == *words);
     }
 }
 
@@ -96,7 +96,7 @@ fn with_word(between: &[u16], place: usize, word: u16) -> ArrayVec<u16, 64> {
 }
 
 /// The word with r0, the words with r16, and the place and the word of their access with r0.
-const INLINE: [(u16, &[u16], usize, u16); 4] = [
+static INLINE: [(u16, &[u16], usize, u16); 4] = [
     (0x920F, &PUSH, 8, 0x8200),
     (0x900F, &POP, 9, 0x8000),
     (0x8009, &LOAD, 6, 0x8000),
@@ -106,11 +106,11 @@ const INLINE: [(u16, &[u16], usize, u16); 4] = [
 /// Every register but Z's: only the access differs.
 #[test]
 fn each_register_but_those_of_z_is_inline(rt: HostRuntime) {
-    for (first, between, place, access) in INLINE {
+    for (first, between, place, access) in &INLINE {
         for r in 0..30u16 {
             assert!(rt;
-                inline(first | r << 4).as_slice()
-                    == with_word(between, place, access | r << 4).as_slice(),
+                inline(*first | r << 4).as_slice()
+                    == with_word(between, *place, *access | r << 4).as_slice(),
                 "{first} r{r}"
             );
         }
@@ -221,7 +221,7 @@ fn name(form: &Form) -> &'static str {
 
 /// Each form once, with registers that a program may access: how the instruction with this first word is
 /// rewritten at address 0. The second word is 0x0046.
-const SHAPES: [(&str, u16, TemplateShape); 47] = [
+static SHAPES: [(&str, u16, TemplateShape); 47] = [
     ("Nop", 0x0000, TemplateShape::Native),
     ("Movw", 0x0112, TemplateShape::Native),
     ("Muls", 0x0201, TemplateShape::Native),
@@ -273,13 +273,13 @@ const SHAPES: [(&str, u16, TemplateShape); 47] = [
 
 #[test]
 fn each_form_has_a_shape(rt: HostRuntime) {
-    for (form, first, expected) in SHAPES {
-        let instr = decode(first, 0x0046);
+    for (form, first, expected) in &SHAPES {
+        let instr = decode(*first, 0x0046);
         let named = match &instr {
             Some(instr) => name(instr.form()),
             None => "no instruction",
         };
-        assert!(rt; named == form);
-        assert!(rt; shape(0, instr.as_ref()) == expected, "{first}");
+        assert!(rt; named == *form);
+        assert!(rt; shape(0, instr.as_ref()) == *expected, "{first}");
     }
 }

@@ -31,7 +31,7 @@ fn meaning(first: u16, second: u16) -> Option<(&'static str, i32, i32)> {
 }
 
 /// Two words, and what they mean.
-const MEANINGS: [(u16, u16, (&str, i32, i32)); 12] = [
+static MEANINGS: [(u16, u16, (&str, i32, i32)); 12] = [
     (0x940C, 0x1234, ("jmp", 0x1234, 0)),
     (0x9409, 0, ("ijmp", 0, 0)),
     (0x9380, 0x0101, ("sts", 0x0101, 24)),

@@ -1,42 +1,45 @@
 //! Texts of outside tools, each fault and its message, and a text that is written.
 
+use crate::support::ample;
 use hex_image::{HexError, Image, image_or_fault, one_fault, one_image, read, write};
 use std::alloc::Global;
 use std::process::Abort;
-use std::test::Fail;
 
 /// `ldi r16, 0x0F`, `out 0x1B, r16`, `rjmp .-2`.
 const ROW: &[u8] = b":060000000FE00BBBFFCF77\n:00000001FF\n";
 
 /// The words that a text gives, and where the text behind it begins.
-fn answer(rt: &impl Abort, alloc: Global, text: &[u8]) -> Result<(Vec<u16>, usize), Fail> {
-    assert!(rt; text.len() <= 2_097_152);
-    let (image, position) = read(alloc, text)?;
-    Ok((image.words().to_vec(alloc)?, position))
-}
-
-/// The message of a text that is refused.
-fn refusal(rt: &impl Abort, alloc: Global, text: &[u8]) -> Result<String, Fail> {
+fn answer(rt: &impl Abort, alloc: Global, text: &[u8]) -> (Vec<u16>, usize) {
     assert!(rt; text.len() <= 2_097_152);
     match read(alloc, text) {
-        Ok(_) => Err("the text is read".into()),
+        Ok((image, position)) => (ample(rt, image.words().to_vec(alloc)), position),
+        Err(_) => panic!(rt; "the text is refused"),
+    }
+}
+
+/// The text is refused with this message.
+fn is_refused(rt: &impl Abort, alloc: Global, text: &[u8], message: &str) {
+    assert!(rt; text.len() <= 2_097_152);
+    match read(alloc, text) {
+        Ok(_) => panic!(rt; "the text is read"),
         Err(HexError::Bad { line, fault }) => {
-            Ok(format!(in alloc; "bad hex line {line} {fault}")?)
+            let told = ample(rt, format!(in alloc; "bad hex line {line} {fault}"));
+            assert!(rt; told.as_str() == message);
         }
-        Err(HexError::NoMemory) => Err("no memory".into()),
+        Err(HexError::NoMemory) => panic!(rt; "memory is ample"),
     }
 }
 
 /// The text of an image of these words.
-fn written(rt: &impl Abort, alloc: Global, words: &[u16]) -> Result<Vec<u8>, Fail> {
+fn written(rt: &impl Abort, alloc: Global, words: &[u16]) -> Vec<u8> {
     assert!(rt; words.len() <= 24_576);
-    let image = Image::from_words(alloc, words)?;
+    let image = ample(rt, Image::from_words(alloc, words));
     assert!(rt; image.words() == words);
-    Ok(write(alloc, &image)?)
+    ample(rt, write(alloc, &image))
 }
 
 /// Texts of outside tools, the number of their words, and their bytes.
-const FILES: [(&[u8], usize); 3] = [
+static FILES: [(&[u8], usize); 3] = [
     // avr-objcopy 2.26 -O ihex, of two sections with a gap between them
     (
         b":060000000FE00BBBFFCF77\r\n:03002000010203D7\r\n:00000001FF\r\n",
@@ -59,27 +62,26 @@ const FIRST: [u16; 3] = [0xE00F, 0xBB0B, 0xCFFF];
 
 const LAST: [u16; 2] = [0x0201, 0xFF03];
 
-fn words_of_file(alloc: Global, count: usize) -> Result<Vec<u16>, Fail> {
+fn words_of_file(rt: &impl Abort, alloc: Global, count: usize) -> Vec<u16> {
     let mut words = Vec::new(alloc);
-    words.extend_from_slice(&FIRST)?;
-    words.resize(count.saturating_sub(2), 0xFFFF)?;
-    words.extend_from_slice(&LAST)?;
-    Ok(words)
+    ample(rt, words.extend_from_slice(&FIRST));
+    ample(rt, words.resize(count.saturating_sub(2), 0xFFFF));
+    ample(rt, words.extend_from_slice(&LAST));
+    words
 }
 
 #[test]
-fn files_of_outside_tools_are_read(rt: HostRuntime) -> Result<(), Fail> {
+fn files_of_outside_tools_are_read(rt: HostRuntime) {
     for (text, count) in &FILES {
-        let (words, position) = answer(&rt, rt.alloc(), text)?;
-        let wanted = words_of_file(rt.alloc(), *count)?;
+        let (words, position) = answer(&rt, rt.alloc(), text);
+        let wanted = words_of_file(&rt, rt.alloc(), *count);
         assert!(rt; words.as_slice() == wanted.as_slice());
         assert!(rt; position == text.len());
     }
-    Ok(())
 }
 
 /// Texts, the number of their words, and where the text behind them begins.
-const GOOD: [(&[u8], usize, usize); 6] = [
+static GOOD: [(&[u8], usize, usize); 6] = [
     (ROW, 3, 36),
     (
         b":020000040000FA\r\n:060000000fe00bbbffcf77\r\n:0400000300000000F9\r\n:00000001FF\r\nat 5 uart 0x41\r\n",
@@ -98,16 +100,15 @@ const GOOD: [(&[u8], usize, usize); 6] = [
 ];
 
 #[test]
-fn texts_are_read_up_to_their_end_record(rt: HostRuntime) -> Result<(), Fail> {
+fn texts_are_read_up_to_their_end_record(rt: HostRuntime) {
     for (text, count, end) in &GOOD {
-        let (words, position) = answer(&rt, rt.alloc(), text)?;
+        let (words, position) = answer(&rt, rt.alloc(), text);
         assert!(rt; words.len() == *count);
         assert!(rt; position == *end);
     }
-    Ok(())
 }
 
-const FAULTY: [(&[u8], &str); 20] = [
+static FAULTY: [(&[u8], &str); 20] = [
     (b"", "bad hex line 1 end"),
     (b"\r", "bad hex line 2 end"),
     (b":01C00000003F", "bad hex line 1 size"),
@@ -140,18 +141,17 @@ const FAULTY: [(&[u8], &str); 20] = [
 ];
 
 #[test]
-fn the_first_fault_of_the_first_faulty_line_is_told(rt: HostRuntime) -> Result<(), Fail> {
+fn the_first_fault_of_the_first_faulty_line_is_told(rt: HostRuntime) {
     for (text, message) in &FAULTY {
-        assert!(rt; refusal(&rt, rt.alloc(), text)?.as_str() == *message);
+        is_refused(&rt, rt.alloc(), text, message);
     }
     one_image();
     one_fault();
     image_or_fault();
-    Ok(())
 }
 
 #[test]
-fn a_text_cut_short_is_refused(rt: HostRuntime) -> Result<(), Fail> {
+fn a_text_cut_short_is_refused(rt: HostRuntime) {
     for end in 0..35usize {
         let message = match end {
             0 => "bad hex line 1 end",
@@ -159,22 +159,19 @@ fn a_text_cut_short_is_refused(rt: HostRuntime) -> Result<(), Fail> {
             23 | 24 => "bad hex line 2 end",
             _ => "bad hex line 2 length",
         };
-        assert!(rt; refusal(&rt, rt.alloc(), &ROW[..end])?.as_str() == message);
+        is_refused(&rt, rt.alloc(), &ROW[..end], message);
     }
     for end in [35, 36] {
-        let (words, position) = answer(&rt, rt.alloc(), &ROW[..end])?;
+        let (words, position) = answer(&rt, rt.alloc(), &ROW[..end]);
         assert!(rt; words.len() == 3);
         assert!(rt; position == end);
     }
-    Ok(())
 }
 
 #[test]
-fn a_text_of_two_mebibytes_of_line_feeds_has_no_end(rt: HostRuntime) -> Result<(), Fail> {
-    let text = vec![in rt.alloc(); b'\n'; 2_097_152]?;
-    let message = refusal(&rt, rt.alloc(), text.as_slice())?;
-    assert!(rt; message.as_str() == "bad hex line 2097153 end");
-    Ok(())
+fn a_text_of_two_mebibytes_of_line_feeds_has_no_end(rt: HostRuntime) {
+    let text = ample(&rt, vec![in rt.alloc(); b'\n'; 2_097_152]);
+    is_refused(&rt, rt.alloc(), &text, "bad hex line 2097153 end");
 }
 
 /// Words and their text.
@@ -187,14 +184,13 @@ const IMAGES: [(&[u16], &[u8]); 2] = [
 ];
 
 #[test]
-fn images_are_written(rt: HostRuntime) -> Result<(), Fail> {
+fn images_are_written(rt: HostRuntime) {
     for (words, wanted) in &IMAGES {
-        let text = written(&rt, rt.alloc(), words)?;
+        let text = written(&rt, rt.alloc(), words);
         assert!(rt; text.as_slice() == *wanted);
     }
-    let text = written(&rt, rt.alloc(), &[0x1234; 24_576])?;
-    let (words, position) = answer(&rt, rt.alloc(), &text)?;
+    let text = written(&rt, rt.alloc(), &[0x1234; 24_576]);
+    let (words, position) = answer(&rt, rt.alloc(), &text);
     assert!(rt; words.len() == 24_576);
     assert!(rt; position == text.len());
-    Ok(())
 }

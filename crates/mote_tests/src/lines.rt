@@ -1,10 +1,9 @@
 //! Texts with line ends of each kind.
 
-use std::test::Fail;
 use text_lines::{first_line, split_once};
 
 /// Texts, their first lines, and what stands behind: line ends of each kind, and texts that end without one.
-const TEXTS: [(&[u8], &[u8], &[u8]); 7] = [
+static TEXTS: [(&[u8], &[u8], &[u8]); 7] = [
     (b"first\nsecond\n", b"first", b"second\n"),
     (b"first\r\n\r\n", b"first", b"\r\n"),
     (b"first\r\r\n", b"first\r", b""),
@@ -26,10 +25,9 @@ fn texts_are_cut_at_their_line_ends(rt: HostRuntime) {
 
 /// The first of several places counts.
 #[test]
-fn a_text_is_cut_once(rt: HostRuntime) -> Result<(), Fail> {
-    let (before, behind) = split_once(b"at 5 uart", b' ').ok_or("a space")?;
+fn a_text_is_cut_once(rt: HostRuntime) {
+    let (before, behind) = split_once(b"at 5 uart", b' ').expect(&rt, "a space");
     assert!(rt; before == b"at".as_slice());
     assert!(rt; behind == b"5 uart".as_slice());
     assert!(rt; split_once(b"at", b' ').is_none());
-    Ok(())
 }

@@ -5,13 +5,14 @@ ghost use Rattle.mote_core.specs.Conditions.{can_step, is_mapped as is_mapped_te
 ghost use Rattle.mote_core.specs.Physical.{is_sram as is_sram_test};
 ghost use Rattle.mote_core.specs.Step.{form_at};
 
-use crate::support::script;
+use crate::support::ample;
 use avr_decode::decode;
 use avr_exec::{Ask, asks};
 use avr_isa::{Form, io_access};
+use input_script::read;
 use mote_core::{Line, Mote, Plain, Port};
+use std::alloc::Global;
 use std::process::Abort;
-use std::test::Fail;
 
 /// Whether a byte of SRAM has this data address.
 fn is_sram(a: u16) -> bool
@@ -81,47 +82,67 @@ fn has_run(rt: &impl Abort, mote: &Mote) {
     );
 }
 
-/// A program of eleven steps: what each shows outside, and the registers and the stack at the end.
+/// A program of eleven steps.
+const IMAGE: [u16; 16] = [
+    0xE50A, // LDI r16, 0x5A
+    0xBB0A, // OUT DDRA, r16
+    0x930F, // PUSH r16
+    0x911F, // POP r17
+    0x9300, 0x10FF, // STS 0x10FF, r16
+    0x9120, 0x10FF, // LDS r18, 0x10FF
+    0xFF01, // SBRS r16, 1
+    0x940C, 0x0000, // JMP 0, passed over
+    0x9AD8, // SBI PORTA, 0
+    0xB339, // IN r19, PINA
+    0x9144, // LPM r20, Z
+    0x940E, 0x1234, // CALL 0x1234
+];
+
+/// What each step shows.
+const SHOWN: [Option<Line>; 11] = [
+    None,
+    Some(Line {
+        port: Port::DdrA,
+        value: 0x5A,
+    }),
+    None,
+    None,
+    None,
+    None,
+    None,
+    Some(Line {
+        port: Port::PortA,
+        value: 1,
+    }),
+    None,
+    None,
+    None,
+];
+
+/// A mote with the program. It is in a box: where a mote itself is let go, the proof goes through all its parts.
+fn loaded(rt: &impl Abort, alloc: Global) -> Box<Mote> {
+    let Ok(script) = read(alloc, b"at 1 pina 0x77") else {
+        panic!(rt; "the script has a fault")
+    };
+    match Mote::new(alloc, &IMAGE, script, 0) {
+        Ok(mote) => ample(rt, Box::new(alloc, mote)),
+        Err(_) => panic!(rt; "memory is ample"),
+    }
+}
+
+/// Makes a step, and answers what it shows.
+fn shown(rt: &impl Abort, mote: &mut Mote) -> Option<Line> {
+    assert!(rt; may_step(mote));
+    assert!(rt; mote.devices.polls() < 1000);
+    line_of(mote.plain_step())
+}
+
+/// What each step shows outside, and the registers and the stack at the end.
 #[test]
-fn a_program_in_flash(rt: HostRuntime) -> Result<(), Fail> {
-    let image = [
-        0xE50A, // LDI r16, 0x5A
-        0xBB0A, // OUT DDRA, r16
-        0x930F, // PUSH r16
-        0x911F, // POP r17
-        0x9300, 0x10FF, // STS 0x10FF, r16
-        0x9120, 0x10FF, // LDS r18, 0x10FF
-        0xFF01, // SBRS r16, 1
-        0x940C, 0x0000, // JMP 0, passed over
-        0x9AD8, // SBI PORTA, 0
-        0xB339, // IN r19, PINA
-        0x9144, // LPM r20, Z
-        0x940E, 0x1234, // CALL 0x1234
-    ];
-    let script = script(rt.alloc(), b"at 1 pina 0x77")?;
-    let mote = Mote::new(rt.alloc(), &image, script, 0)
-        .ok()
-        .ok_or("memory is ample")?;
-    let mut mote = Box::new(rt.alloc(), mote)?;
-    let line = |port, value| Some(Line { port, value });
-    let shown = [
-        None,
-        line(Port::DdrA, 0x5A),
-        None,
-        None,
-        None,
-        None,
-        None,
-        line(Port::PortA, 1),
-        None,
-        None,
-        None,
-    ];
-    for (step, want) in shown.iter().enumerate() {
-        assert!(rt; may_step(&mote), "step {step}");
-        assert!(rt; mote.devices.polls() < 1000);
-        assert!(rt; line_of(mote.plain_step()) == *want, "step {step}");
+fn a_program_in_flash(rt: HostRuntime) {
+    let mut mote = loaded(&rt, rt.alloc());
+    for (step, want) in SHOWN.iter().enumerate() {
+        assert!(rt; shown(&rt, &mut mote) == *want, "step {step}");
     }
     has_run(&rt, &mote);
-    Ok(())
 }

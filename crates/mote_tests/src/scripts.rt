@@ -1,29 +1,27 @@
 //! Scripts of each form, and the first fault of those that are refused.
 
-use crate::support::{printed, script};
+use crate::support::ample;
 use input_script::{Input, ScriptError, read};
 use std::alloc::Global;
 use std::process::Abort;
-use std::test::Fail;
 
 /// The line of the first fault of a text and its word, or no line and no word.
-fn refusal(rt: &impl Abort, alloc: Global, text: &[u8]) -> Result<(u32, String), Fail> {
+fn refusal(rt: &impl Abort, alloc: Global, text: &[u8]) -> (u32, String) {
     assert!(rt; text.len() <= 2_097_152);
     match read(alloc, text) {
-        Ok(_) => Ok((0, String::new(alloc))),
-        Err(ScriptError::Bad { line, fault }) => Ok((line, printed(alloc, &fault)?)),
-        Err(ScriptError::NoMemory) => Err("no memory".into()),
+        Ok(_) => (0, String::new(alloc)),
+        Err(ScriptError::Bad { line, fault }) => (line, ample(rt, format!(in alloc; "{fault}"))),
+        Err(ScriptError::NoMemory) => panic!(rt; "memory is ample"),
     }
 }
 
 /// Each text has its first fault at this line, by this word; or none where they are 0 and empty.
-fn are_refused(rt: &impl Abort, alloc: Global, texts: &[(&[u8], u32, &str)]) -> Result<(), Fail> {
+fn are_refused(rt: &impl Abort, alloc: Global, texts: &[(&[u8], u32, &str)]) {
     for (text, line, word) in texts {
-        let (found, told) = refusal(rt, alloc, text)?;
+        let (found, told) = refusal(rt, alloc, text);
         assert!(rt; found == *line);
         assert!(rt; told.as_str() == *word);
     }
-    Ok(())
 }
 
 const EVENTS: [(u32, Input); 5] = [
@@ -35,20 +33,21 @@ const EVENTS: [(u32, Input); 5] = [
 ];
 
 #[test]
-fn a_script_of_every_form(rt: HostRuntime) -> Result<(), Fail> {
+fn a_script_of_every_form(rt: HostRuntime) {
     let text =
         b"# inputs\n\nat 1 pina 0x0f\r\nfail flash 7\nat 1 pind 0xF0\nat 22 uart 0x41\nat 22 int 7\nfail flash 0000000007\r\nat 4294967295 adc 0x3FF\nfail flash 4294967295";
-    let script = script(rt.alloc(), text)?;
+    let Ok(script) = read(rt.alloc(), text) else {
+        panic!(rt; "the script has a fault")
+    };
     assert!(rt; script.events().len() == EVENTS.len());
     for (event, (at, input)) in script.events().iter().zip(&EVENTS) {
         assert!(rt; event.at == *at);
         assert!(rt; event.input == *input);
     }
     assert!(rt; script.failing() == [7, 7, 4294967295].as_slice());
-    Ok(())
 }
 
-const FAULTS: [(&[u8], u32, &str); 12] = [
+static FAULTS: [(&[u8], u32, &str); 12] = [
     (b"at 5 uart 0x41\nat 4 pina 0x00\n", 2, "order"),
     (b"at 1 adc 0x400", 1, "range"),
     (b"at 1  uart 0x41", 1, "form"),
@@ -64,11 +63,11 @@ const FAULTS: [(&[u8], u32, &str); 12] = [
 ];
 
 #[test]
-fn the_first_fault_of_a_text(rt: HostRuntime) -> Result<(), Fail> {
-    are_refused(&rt, rt.alloc(), &FAULTS)
+fn the_first_fault_of_a_text(rt: HostRuntime) {
+    are_refused(&rt, rt.alloc(), &FAULTS);
 }
 
-const WRONG_FAIL_LINES: [&[u8]; 20] = [
+static WRONG_FAIL_LINES: [&[u8]; 20] = [
     b"fail",
     b"fail flash",
     b"fail flash ",
@@ -92,15 +91,14 @@ const WRONG_FAIL_LINES: [&[u8]; 20] = [
 ];
 
 #[test]
-fn fail_lines_of_a_wrong_form(rt: HostRuntime) -> Result<(), Fail> {
+fn fail_lines_of_a_wrong_form(rt: HostRuntime) {
     for line in &WRONG_FAIL_LINES {
-        are_refused(&rt, rt.alloc(), &[(*line, 1, "form")])?;
+        are_refused(&rt, rt.alloc(), &[(*line, 1, "form")]);
     }
-    Ok(())
 }
 
 /// A fault of order comes before one of range. Events and fail lines are in order apart from each other.
-const NUMBERS: [(&[u8], u32, &str); 12] = [
+static NUMBERS: [(&[u8], u32, &str); 12] = [
     (b"at 5 uart 0x41\nat 4 adc 0x400", 2, "order"),
     (b"fail flash 5\nfail flash 4", 2, "order"),
     (b"fail flash 5\nfail flash 0", 2, "order"),
@@ -116,22 +114,25 @@ const NUMBERS: [(&[u8], u32, &str); 12] = [
 ];
 
 #[test]
-fn numbers_out_of_order_and_out_of_range(rt: HostRuntime) -> Result<(), Fail> {
-    are_refused(&rt, rt.alloc(), &NUMBERS)
+fn numbers_out_of_order_and_out_of_range(rt: HostRuntime) {
+    are_refused(&rt, rt.alloc(), &NUMBERS);
 }
 
 /// 32,768 events and as many fail lines, and this text behind them.
-fn full_script(alloc: Global, end: &[u8]) -> Result<Vec<u8>, Fail> {
+fn full_script(rt: &impl Abort, alloc: Global, end: &[u8]) -> Vec<u8> {
     let mut text = Vec::new(alloc);
     for _ in 0..32_768u32 {
-        text.extend_from_slice(b"at 7 uart 0x41\nfail flash 7\n")?;
+        ample(
+            rt,
+            text.extend_from_slice(b"at 7 uart 0x41\nfail flash 7\n"),
+        );
     }
-    text.extend_from_slice(end)?;
-    Ok(text)
+    ample(rt, text.extend_from_slice(end));
+    text
 }
 
 /// What stands behind a full script, and the fault of its last line.
-const ENDS: [(&[u8], u32, &str); 9] = [
+static ENDS: [(&[u8], u32, &str); 9] = [
     (b"", 0, ""),
     (b"\n# full", 0, ""),
     (b"at 7 uart 0x41", 65537, "events"),
@@ -144,10 +145,9 @@ const ENDS: [(&[u8], u32, &str); 9] = [
 ];
 
 #[test]
-fn events_and_fail_lines_are_counted_together(rt: HostRuntime) -> Result<(), Fail> {
+fn events_and_fail_lines_are_counted_together(rt: HostRuntime) {
     for (end, line, word) in &ENDS {
-        let text = full_script(rt.alloc(), end)?;
-        are_refused(&rt, rt.alloc(), &[(text.as_slice(), *line, *word)])?;
+        let text = full_script(&rt, rt.alloc(), end);
+        are_refused(&rt, rt.alloc(), &[(text.as_slice(), *line, *word)]);
     }
-    Ok(())
 }

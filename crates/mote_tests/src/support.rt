@@ -1,23 +1,12 @@
 //! What the tests share.
 
-ghost use Rattle.std.specs.Prelude.{◌≤◌, length};
+use std::process::Abort;
 
-use input_script::{Script, read};
-use std::alloc::Global;
-use std::fmt::Display;
-use std::test::Fail;
-
-/// The script of a text that has no fault.
-pub(crate) fn script(alloc: Global, text: &[u8]) -> Result<Script, Fail>
-    requires short { length text.now ≤ 2097152 }
-{
-    match read(alloc, text) {
-        Ok(script) => Ok(script),
-        Err(_) => Err("the script has a fault".into()),
+/// The value of an answer that fails only where memory is short. A test that ends there has no other way out, at which its proof would
+/// let go of what it holds.
+pub(crate) fn ample<T, E: Drop>(rt: &impl Abort, answer: Result<T, E>) -> T {
+    match answer {
+        Ok(value) => value,
+        Err(_) => panic!(rt; "memory is ample"),
     }
-}
-
-/// A value as it is printed.
-pub(crate) fn printed<T: Display>(alloc: Global, value: &T) -> Result<String, Fail> {
-    Ok(format!(in alloc; "{value}")?)
 }

@@ -19,7 +19,7 @@ use tk_restart::{Kept, restart, tear};
 use tk_run::{End, Machine, Options};
 
 /// Scripts that have each operation of the calls fail in turn.
-const SCRIPTS: [&[u8]; 9] = [
+static SCRIPTS: [&[u8]; 9] = [
     b"fail flash 1\n",
     b"fail flash 2\n",
     b"fail flash 3\n",
@@ -262,7 +262,7 @@ fn each_operation_is_lost_with_each_content(rt: HostRuntime) -> Result<(), Fail>
     let fresh = run_calls(&rt, b"")?;
     assert!(rt; fresh.ops == SCRIPTS.len() as u64);
     assert!(rt; halted_at(fresh.end).is_some());
-    for script in SCRIPTS {
+    for script in &SCRIPTS {
         each_content_is_survived(&rt, &run_calls(&rt, script)?, &fresh)?;
     }
     Ok(())

@@ -5,7 +5,7 @@ use std::test::Fail;
 use tkernel_cli::{Command, command_of};
 
 /// Command lines, and what they ask for: the command, and its numbers.
-const ACCEPTED: [(&[&str], &str, [u64; 4]); 28] = [
+static ACCEPTED: [(&[&str], &str, [u64; 4]); 28] = [
     (&["run"], "run", [1_000_000, 255, 128, 0]),
     (&["run", "--steps", "9"], "run", [9, 255, 128, 0]),
     (&["run", "--steps=5"], "run", [5, 255, 128, 0]),

@@ -11,7 +11,7 @@ const STORE: [u16; 5] = [0xE00F, 0x9300, 0x0103, 0xBB0B, 0xCFFF];
 const ROOM: usize = 2000;
 
 /// What each view's words answer for it.
-const VIEWS: [(&[&str], &[u8]); 7] = [
+static VIEWS: [(&[&str], &[u8]); 7] = [
     (
         &["lines"],
         b"step 3 PORTA 0x0F\n\
