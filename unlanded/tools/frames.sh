@@ -1,0 +1,1 @@
+objdump -d $1 --no-show-raw-insn | awk '/^[0-9a-f]+ <.*>:$/ {f=$2} /sub .*\$0x[0-9a-f]+,%rsp/ { match($0,/\$0x[0-9a-f]+/); v=substr($0,RSTART+3,RLENGTH-3); if (length(v)>=5) print f, v}' | cut -c1-140

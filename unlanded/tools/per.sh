@@ -1,0 +1,2 @@
+i() { GLIBC_TUNABLES=glibc.cpu.x86_rep_stosb_threshold=1000000:glibc.cpu.x86_rep_movsb_threshold=1000000 valgrind --tool=cachegrind --cache-sim=no --cachegrind-out-file=/dev/null "$@" 2>&1 >/dev/null | awk '/I +refs:/ { gsub(",", "", $NF); print $NF }'; }
+per() { prog=$1; hex=$2; shift 2; a=$(i $prog "$@" --steps 100000 < $hex); b=$(i $prog "$@" --steps 300000 < $hex); echo "$(basename $hex) $1 $2 $# $(( (b-a)/2000 ))"; }

@@ -1,0 +1,12 @@
+#!/bin/bash
+# rd.sh CLONE CRATE [flags]: incremental check of CLONE/crates/CRATE over the rlibs of /tmp/w/rl2
+clone=$1; crate=$2; shift 2
+cd $clone/crates/$crate || exit 2
+rl=${RL:-/tmp/w/rl2}
+args=()
+deps=$(grep -E "^$crate( |:)" ../../crates.txt | sed 's/#.*//; s/^[^:]*://')
+for d in $deps; do
+  if [ -d $rl/$d.rlib ]; then args+=(--extern $d=$rl/$d.rlib); else args+=(--extern $d=/opt/rattle/rlibs/$d.rlib); fi
+done
+mkdir -p /tmp/w/inc/$(basename $clone)
+exec /opt/rattle/bin/rattle check --crate-name $crate src/lib.rt --extern std=/opt/rattle/rlibs/std.rlib "${args[@]}" -L dependency=/opt/rattle/rlibs -L dependency=$rl --antt-project /opt/rattle/rattle/logic/antt-project.json --logic-built /opt/rattle/logic_built --links $crate= --jobs 1 --incremental /tmp/w/inc/$(basename $clone)/$crate "$@"
