@@ -7,7 +7,7 @@
 //
 // Into the files lines, state, memory and profile of FOLDER it writes what the views of tkwatch are to show before the stop
 // line: of `state` all but how many slots there are, and the operations on flash. So it does for each line of FOLDER's file
-// words that has a view with its own words, as "trace 100 5", "visits 0x0000 0x0012" and "changes 0x0103 4".
+// words that has a view with its own words, as "trace 100 5", "visits 0x0000 0x0012", "changes 0x0103 4" and "accesses 0x0000 65536".
 //
 // It knows the ends halted, asleep, spent, wild, io and stack, and no bound of pages stored to.
 // It makes no pages, so lines of failing flash in the script say nothing to it. One step of simavr's core it puts right: a skip
@@ -58,11 +58,13 @@ static FILE *told_lines;              // each line behind its step, where this i
 static unsigned long steps;           // that were done
 static unsigned long begun[0x10000];  // how many steps began at each word address
 static bool stored[0x100];            // the pages of 256 bytes that were stored to
-static FILE *told_trace, *told_visits, *told_changes; // where these views are asked for
+static FILE *told_trace, *told_visits, *told_changes, *told_accesses; // where these views are asked for
 static unsigned long first_row, row_count;
 static bool is_place[0x10000];
 static unsigned watched_at, watched_count;
 static uint8_t watched[64]; // what stood in the watched bytes behind the step before
+static unsigned accessed_at, accessed_count;
+static uint8_t given; // what the last read of a device register gave
 
 // A device register: whether it is read by a poll, read or written at all, and the name of its lines.
 static const struct device {
@@ -130,15 +132,7 @@ static bool wakes(const avr_t *avr) {
     return false;
 }
 
-static uint8_t on_read(avr_t *avr, avr_io_addr_t address, void *unused) {
-    const struct device *device = device_at(address);
-    if (device == NULL || !device->readable) {
-        refused = address;
-        return 0;
-    }
-    if (device->polled) {
-        poll();
-    }
+static uint8_t value_of(const avr_t *avr, avr_io_addr_t address) {
     switch (address) {
     case 0x24: return in.converted & 0xFF;
     case 0x25: return in.converted >> 8;
@@ -152,6 +146,19 @@ static uint8_t on_read(avr_t *avr, avr_io_addr_t address, void *unused) {
     case 0x52: return in.polls & 0xFF;
     default: return avr->data[address];
     }
+}
+
+static uint8_t on_read(avr_t *avr, avr_io_addr_t address, void *unused) {
+    const struct device *device = device_at(address);
+    if (device == NULL || !device->readable) {
+        refused = address;
+        return 0;
+    }
+    if (device->polled) {
+        poll();
+    }
+    given = value_of(avr, address);
+    return given;
 }
 
 static void on_write(avr_t *avr, avr_io_addr_t address, uint8_t value, void *unused) {
@@ -234,15 +241,15 @@ static unsigned pair(const avr_t *avr, unsigned low) {
     return avr->data[low] | avr->data[low + 1] << 8;
 }
 
-// The data address that this instruction stores to, or 0: by the encodings of ST, STD and STS. A PUSH or a call stores to
-// the stack window.
-static unsigned store_address(const avr_t *avr, unsigned pc) {
+// The data address that this instruction loads from or stores to, or -1: by the encodings of LD, LDD and LDS, ST, STD and STS.
+// PUSH, POP and calls aren't among them.
+static int named_address(const avr_t *avr, unsigned pc) {
     unsigned word = word_at(avr, pc), offset = (word & 7) | (word >> 7 & 0x18) | (word >> 8 & 0x20);
-    if ((word & 0xD208) == 0x8200 || (word & 0xD208) == 0x8208) {
+    if ((word & 0xD000) == 0x8000) {
         return (pair(avr, word & 8 ? 28 : 30) + offset) & 0xFFFF;
     }
-    if ((word & 0xFE00) != 0x9200) {
-        return 0;
+    if ((word & 0xFC00) != 0x9000) {
+        return -1;
     }
     switch (word & 15) {
     case 0x0: return word_at(avr, pc + 1);
@@ -253,8 +260,13 @@ static unsigned store_address(const avr_t *avr, unsigned pc) {
     case 0xC:
     case 0xD: return pair(avr, 26);
     case 0xE: return (pair(avr, 26) - 1) & 0xFFFF;
-    default: return 0;
+    default: return -1;
     }
+}
+
+// Of such an instruction, whether it stores.
+static bool stores(unsigned word) {
+    return word & 0x0200;
 }
 
 // Whether an instruction may skip the next one: CPSE, SBRC, SBRS, SBIC and SBIS.
@@ -267,14 +279,14 @@ static bool has_two_words(unsigned word) {
     return (word & 0xFC0F) == 0x9000 || word == 0x940C || word == 0x940E;
 }
 
-static bool is_heap(unsigned address) {
+static bool is_heap(int address) {
     return address >= 0x100 && (address < WINDOW_FIRST || address > WINDOW_LAST);
 }
 
 // Executes the instruction at this address. Where it may not be, nothing changes.
 static void execute(avr_t *avr, unsigned pc) {
     struct core before = core_of(avr);
-    unsigned to = store_address(avr, pc);
+    int to = stores(word_at(avr, pc)) ? named_address(avr, pc) : -1;
     avr->pc = word_at(avr, pc) == SLEEP ? avr->pc + 2 : avr_run_one(avr);
     if (is_skip(word_at(avr, pc)) && avr->pc == 2 * (pc + 3) && !has_two_words(word_at(avr, pc + 1))) {
         avr->pc -= 2;
@@ -313,10 +325,65 @@ static void tell_changes(const avr_t *avr, unsigned pc, FILE *out) {
     }
 }
 
-// Tells what is asked for behind so many steps, the last of which began at this pc.
-static void tell_step(const avr_t *avr, unsigned pc) {
+// How a step begins.
+struct outset {
+    unsigned pc, word, sp, sreg;
+    int address; // that a load or store names, or -1
+    bool interrupts;
+};
+
+static struct outset outset_of(const avr_t *avr, bool interrupts) {
+    unsigned pc = avr->pc / 2;
+    return (struct outset){pc, word_at(avr, pc), stack_pointer(avr), status_register(avr), named_address(avr, pc), interrupts};
+}
+
+static void tell_access(const struct outset *outset, const char *kind, unsigned address, uint8_t byte) {
+    address &= 0xFFFF;
+    if (address >= accessed_at && address - accessed_at < accessed_count) {
+        fprintf(told_accesses, "step %lu 0x%04X %s 0x%04X 0x%02X 0x%02X\n", steps, outset->pc, kind, address, byte, outset->sreg);
+    }
+}
+
+// What stands at a data address.
+static uint8_t byte_at(const avr_t *avr, unsigned address) {
+    return address == R_SREG ? status_register(avr) : avr->data[address & 0xFFFF];
+}
+
+// Tells which bytes a step that was made reached by address: of a store what stands there now, and of a load what the register has.
+static void tell_accesses(const avr_t *avr, const struct outset *outset) {
+    static const char *const bit_kinds[] = {"clear", "test", "set", "test"};
+    unsigned word = outset->word, sp = outset->sp, io = 0x20 + ((word & 15) | (word >> 5 & 0x30)), low = 0x20 + (word >> 3 & 31);
+    uint8_t loaded = avr->data[word >> 4 & 31], weight = 1 << (word & 7);
+    if (outset->interrupts || (word & 0xFE0E) == 0x940E || (word & 0xF000) == 0xD000 || word == 0x9509) {
+        const char *kind = outset->interrupts ? "interrupt" : "store";
+        tell_access(outset, kind, sp, byte_at(avr, sp));
+        tell_access(outset, kind, sp - 1, byte_at(avr, sp - 1));
+    } else if (word == 0x9508 || word == 0x9518) {
+        tell_access(outset, "load", sp + 1, byte_at(avr, sp + 1));
+        tell_access(outset, "load", sp + 2, byte_at(avr, sp + 2));
+    } else if ((word & 0xFE0F) == 0x920F) {
+        tell_access(outset, "store", sp, byte_at(avr, sp));
+    } else if ((word & 0xFE0F) == 0x900F) {
+        tell_access(outset, "load", sp + 1, loaded);
+    } else if ((word & 0xF800) == 0xB000) {
+        tell_access(outset, "load", io, loaded);
+    } else if ((word & 0xF800) == 0xB800) {
+        tell_access(outset, "store", io, byte_at(avr, io));
+    } else if ((word & 0xFC00) == 0x9800) {
+        tell_access(outset, bit_kinds[word >> 8 & 3], low, word & 0x0100 ? given & weight : weight);
+    } else if (outset->address >= 0) {
+        bool is_store = stores(word);
+        tell_access(outset, is_store ? "store" : "load", outset->address, is_store ? byte_at(avr, outset->address) : loaded);
+    }
+}
+
+// Tells what is asked for behind so many steps, the last of which began so.
+static void tell_step(const avr_t *avr, const struct outset *outset) {
     if (told_changes != NULL) {
-        tell_changes(avr, pc, told_changes);
+        tell_changes(avr, outset->pc, told_changes);
+    }
+    if (told_accesses != NULL && steps > 0) {
+        tell_accesses(avr, outset);
     }
     if (told_visits != NULL && is_place[avr->pc / 2]) {
         fprintf(told_visits, "step %lu 0x%04X\n", steps, avr->pc / 2);
@@ -329,11 +396,13 @@ static void tell_step(const avr_t *avr, unsigned pc) {
 static void run(avr_t *avr, unsigned image_words, unsigned long bound, unsigned long quantum) {
     unsigned long crossings = 0;
     bool due = false; // a checkpoint, or the end of a sleep, was the last step
-    tell_step(avr, 0);
+    struct outset outset = outset_of(avr, false);
+    tell_step(avr, &outset);
     for (;;) {
         unsigned pc = avr->pc / 2, word = word_at(avr, pc), next;
         bool interrupts = due && avr->sreg[S_I] && enabled(avr);
         int outside = outside_window(word, interrupts, stack_pointer(avr));
+        outset = outset_of(avr, interrupts);
         if (pc >= image_words) {
             printf("fault wild 0x%04X", pc);
         } else if (steps == bound) {
@@ -343,7 +412,7 @@ static void run(avr_t *avr, unsigned image_words, unsigned long bound, unsigned 
             due = false;
             begun[pc]++;
             steps++;
-            tell_step(avr, pc);
+            tell_step(avr, &outset);
             continue;
         } else if (!interrupts && word == SLEEP && !wakes(avr)) {
             printf("asleep 0x%04X", pc);
@@ -360,7 +429,7 @@ static void run(avr_t *avr, unsigned image_words, unsigned long bound, unsigned 
                 steps++;
                 crossings += crosses;
                 due = word == SLEEP || (crosses && crossings % quantum == 0);
-                tell_step(avr, pc);
+                tell_step(avr, &outset);
                 continue;
             }
             printf("fault io 0x%04X address 0x%04X", pc, refused);
@@ -429,6 +498,8 @@ static void read_words(const char *folder) {
             told_trace = file_in(folder, "trace");
         } else if (sscanf(line, "changes %x %u", &watched_at, &watched_count) == 2) {
             told_changes = file_in(folder, "changes");
+        } else if (sscanf(line, "accesses %x %u", &accessed_at, &accessed_count) == 2) {
+            told_accesses = file_in(folder, "accesses");
         } else if (strtok(line, " \n") != NULL) {
             told_visits = file_in(folder, "visits");
             for (const char *place = strtok(NULL, " \n"); place != NULL; place = strtok(NULL, " \n")) {

@@ -4,7 +4,7 @@ _tkernel_words() {
     local before=$3 command=${COMP_WORDS[1]} options='--steps --quantum --swap' words=
     if [ "$COMP_CWORD" = 1 ]; then
         case ${1##*/} in
-        tkwatch) words='lines state memory profile trace visits changes help' ;;
+        tkwatch) words='lines state memory profile trace visits changes accesses help' ;;
         *) words='run dump restart tasks check generate asm help' ;;
         esac
     else

@@ -85,7 +85,8 @@ help_alone : (behind : List (List ℕ)) (view : View) → ¬ AskForView (codes "
 help_alone behind view (inl ask) = absurd (let e = ask.0 in cc)
 help_alone behind view (inr (inl ask)) = let e = ask.0 in absurd (cc)
 help_alone behind view (inr (inr (inl ask))) = let e = ask.0 in absurd (cc)
-help_alone behind view (inr (inr (inr ask))) = let e = ask.0 in absurd (cc)
+help_alone behind view (inr (inr (inr (inl ask)))) = let e = ask.0 in absurd (cc)
+help_alone behind view (inr (inr (inr (inr ask)))) = let e = ask.0 in absurd (cc)
 
 no_help : (words : List (List ℕ)) (view : View) (options : RunOptions) → AskForHelp words → ¬ AskToWatch words view options
 no_help words view options help watch = help_alone watch.0 view (subst (λ w. AskForView w watch.0 view) help watch.1)

@@ -16,3 +16,4 @@ mod ProfileLaws
 mod RunsShown
 mod ViewWordsLaws
 mod Exactly
+mod WorkedAccesses

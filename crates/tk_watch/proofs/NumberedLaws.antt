@@ -52,14 +52,14 @@ both_numbered [] b first second none others = subst (TellsNumbered b) (ap (λ z.
 both_numbered (line ∷ a) b first second (step, rest, is, behind) others =
     (step, rest ++ second, ap (λ z. z ++ second) is ∙ append_assoc (numbered_line step line) rest second, both_numbered a b rest second behind others)
 
-all_numbered : (runs : ℕ → Run) → (runs 0).lines ≡ [] → ((k : ℕ) → Grows (runs k) (runs (suc k))) → (n : ℕ) → TellsNumbered (runs n).lines (told_text Lines runs n)
-all_numbered runs none more zero = rw none refl
-all_numbered runs none more (suc k) =
+all_numbered : (program : Program) (runs : ℕ → Run) → (runs 0).lines ≡ [] → ((k : ℕ) → Grows (runs k) (runs (suc k))) → (n : ℕ) → TellsNumbered (runs n).lines (told_text Lines program runs n)
+all_numbered program runs none more zero = rw none refl
+all_numbered program runs none more (suc k) =
     let grown = more k in
-    let both = both_numbered (runs k).lines grown.0 (told_text Lines runs k) (flat_map (numbered_line (suc k)) grown.0) (all_numbered runs none more k) (each_numbered (suc k) grown.0) in
+    let both = both_numbered (runs k).lines grown.0 (told_text Lines program runs k) (flat_map (numbered_line (suc k)) grown.0) (all_numbered program runs none more k) (each_numbered (suc k) grown.0) in
     rw (lines_of_step runs k grown.0 grown.1, grown.1) both
 
 -- of the original program
-pub tells_all : (program : Program) (events : List Event) (n : ℕ) → TellsNumbered (original program events n).lines (told_text Lines (original program events) n)
+pub tells_all : (program : Program) (events : List Event) (n : ℕ) → TellsNumbered (original program events n).lines (told_text Lines program (original program events) n)
 tells_all program events n =
-    all_numbered (original program events) (none_ran program (at_front program events)).0 (λ k. grows program k (at_front program events)) n
+    all_numbered program (original program events) (none_ran program (at_front program events)).0 (λ k. grows program k (at_front program events)) n

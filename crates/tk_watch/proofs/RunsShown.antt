@@ -1,11 +1,12 @@
 -- A watched run from boot is a run, and what was said of it is what a view shows.
-use Rattle.std.proofs.Common.{◌≡◌, ℕ, ◌≤◌, List, [], ◌++◌, length, append_assoc, refl, sym, ap₂, ◌∙◌, subst, arith, ◌⊎◌, inl, inr}
+use Rattle.std.proofs.Common.{◌≡◌, ℕ, ◌≤◌, List, [], ◌++◌, length, append_assoc, refl, sym, ap, ap₂, ◌∙◌, subst, arith, ◌⊎◌, inl, inr}
 use Rattle.std.specs.Prelude.{◌^◌, codes, slice_index, IfOk, MatchResult, Option, Result, Some, None, Ok, Err}
 use Rattle.byte_streams.specs.declared.failure.Failed.{Failed}
 use Rattle.byte_streams.specs.Streams.{CutShort, IsSent}
 use Rattle.byte_streams.proofs.KnownBytes.{nothing_sent}
 use Rattle.hex_image.specs.Image.{IsImage}
 use Rattle.flash_words.specs.Memory.{IsWhole, new_flash}
+use Rattle.kernel_entry.specs.Seen.{program as program_of}
 use Rattle.kernel_entry.specs.declared.kernel.End.{End}
 use Rattle.program_steps.specs.Machines.{Machine, flat_of}
 use Rattle.program_steps.specs.Ready.{IsKept}
@@ -13,17 +14,17 @@ use Rattle.program_steps.specs.Wholes.{whole}
 use Rattle.tk_run.specs.Running.{HasAdvanced, original_from}
 use Rattle.tk_run.specs.Booted.{booted}
 use Rattle.tk_run.proofs.Advancing.{advanced_whole}
-use Rattle.tk_run.proofs.Booting.{begun_boot, run_start}
+use Rattle.tk_run.proofs.Booting.{begun_boot, program_start, run_start}
 use Rattle.cli_words.specs.declared.request.Request.{Request}
 use Rattle.cli_words.specs.Commands.{AreOptions}
 use Rattle.cli_words.specs.declared.status.Status.{Status}
 use Rattle.cli_words.specs.declared.status.Status.TheVariants.{NoMemory}
 use Rattle.cli_words.specs.Stream.{Stream}
-use Rattle.tkernel_cli.specs.Runs.{Says, original_of, status_of_stop}
+use Rattle.tkernel_cli.specs.Runs.{Says, original_of, own_program, status_of_stop}
 use Rattle.tkernel_cli.proofs.RunEnds.{ran_silently}
 use Rattle.tk_watch.specs.declared.view.View.{View}
 use Rattle.tk_watch.specs.declared.view.View.TheVariants.{Profile}
-use Rattle.flat_machine.specs.FlatMachine.{FlatState, Run}
+use Rattle.flat_machine.specs.FlatMachine.{FlatState, Program, Run}
 use Rattle.tk_watch.specs.declared.showing.Start.{Start}
 use Rattle.tk_watch.specs.ProfileText.{times_at}
 use Rattle.tk_watch.specs.StepTexts.{told_text}
@@ -42,11 +43,19 @@ from_boot request image kept k =
     let whole : IsWhole (new_flash request.image request.script.failing) = kept.sound.order.whole in
     run_start request.image (new_flash request.image request.script.failing) request.script request.options.quantum request.options.swap 0 k (begun_boot request.image request.script image whole)
 
+-- .. which is the program that is asked for
+booted_program : (request : Request) → IsImage request.image → IsKept (start_of request) → program_of (start_of request).kernel ≡ own_program request
+booted_program request image kept = program_start request.script request.options.quantum request.options.swap (begun_boot request.image request.script image kept.sound.order.whole)
+
+-- the same program and the same runs
+told_same_by : (view : View) (program other : Program) (runs others : ℕ → Run) → program ≡ other → ((k : ℕ) → runs k ≡ others k) → (n : ℕ) → told_text view program runs n ≡ told_text view other others n
+told_same_by view program other runs others is same n = told_same view program runs others same n ∙ ap (λ (p : Program). told_text view p others n) is
+
 -- a profile's steps were counted, and nothing was told of them
 pub profile_run : (old new : Machine) (n : ℕ) (counts gathered : List ℕ) (known : Option (List ℕ)) (end : End) → gathered ≡ [] → HasCounted old new n counts end
     → HasRun Profile old new n counts gathered known known (Ok end)
 profile_run old new n counts gathered known end empty counted =
-    let sent = subst (λ z. IsSent z gathered known known) (empty ∙ sym (none_told (original_from old) new.steps)) (nothing_sent gathered known) in
+    let sent = subst (λ z. IsSent z gathered known known) (empty ∙ sym (none_told (program_of old.kernel) (original_from old) new.steps)) (nothing_sent gathered known) in
     (record { text = counted.text; advanced = counted.advanced; sent = sent }, counted.counted)
 
 -- .. and another view counts none
@@ -90,13 +99,13 @@ module _ (view : View) (request : Request) (m : Machine) (before now : Stream) (
       let runs = original_from (start_of request) in
       let own = original_of request in
       let ops = m.kernel.mote.flash.ops in
-      let steps_text = told_text view runs m.steps in
+      let steps_text = told_text view (program_of (start_of request).kernel) runs m.steps in
       let left = left_text view slots events (λ a. times_at runs a m.steps) ops (flat_of m).now in
-      let same = ap₂ (λ a b. a ++ b) (told_same view runs own (from_boot request image kept) m.steps)
+      let same = ap₂ (λ a b. a ++ b) (told_same_by view (program_of (start_of request).kernel) (own_program request) runs own (booted_program request image kept) (from_boot request image kept) m.steps)
       (left_of_same view slots events runs own (from_boot request image kept) m.steps ops (flat_of m).now) in
       shown_by text (steps_text ++ left) end advanced same (subst (λ t. Says (status_of_stop end) t before now told) (sym (append_assoc steps_text left (stop_of end m))) said)
   view_shown (HasShown.Cut is rose cut) =
-      let same = told_same view (original_from (start_of request)) (original_of request) (from_boot request image kept) cut.done in
+      let same = told_same_by view (program_of (start_of request).kernel) (own_program request) (original_from (start_of request)) (original_of request) (booted_program request image kept) (from_boot request image kept) cut.done in
       Shows.Cut (record { status_is = is; rose = rose; done = cut.done; within = cut.within; put = subst (CutShort before.told now.told) same cut.put })
 
 -- .. of a machine from boot, if memory served

@@ -4,7 +4,7 @@ use Rattle.std.specs.Prelude.{Option, Some, None, Ok}
 use Rattle.std.proofs.lemmas.List.{append-nil}
 use Rattle.byte_streams.proofs.KnownBytes.{appends-nothing}
 use Rattle.mote_devices.specs.declared.line.Line.{Line}
-use Rattle.flat_machine.specs.FlatMachine.{Moment, Run, run, with_line}
+use Rattle.flat_machine.specs.FlatMachine.{Run, run, with_line}
 use Rattle.flat_machine.proofs.MachineLaws.{run_goes}
 use Rattle.kernel_entry.specs.Seen.{program as program_of}
 use Rattle.kernel_entry.specs.declared.kernel.End.{End}
@@ -23,7 +23,7 @@ use Rattle.tk_run.proofs.InTurn.{lines_so_far, bound_counts}
 use Rattle.tk_watch.specs.Turning.{HasTurned}
 use Rattle.tk_watch.specs.declared.view.View.{View}
 use Rattle.tk_watch.specs.Kept.{IsUntold}
-use Rattle.tk_watch.specs.StepTexts.{step_text, told_text}
+use Rattle.tk_watch.specs.StepTexts.{moment_text, told_text}
 use Rattle.tk_watch.proofs.ToldLaws.{beside_same, told_on, told_silent}
 
 -- where the original stands
@@ -53,7 +53,7 @@ step_lines {new = new} now' (StepWay.Stopped stop over kept none steps is same) 
 -- in the midst of a turn of so many steps, since i of which nothing was told
 pub record IsSilent (view : View) (old now : Machine) (i j : ℕ) (text : List ℕ) : Type 0 where
   pub inside : IsIn old now j (Some []) (Some text)
-  pub told : told_text view (original_from old) j ≡ told_text view (original_from old) i
+  pub told : told_text view (program_of old.kernel) (original_from old) j ≡ told_text view (program_of old.kernel) (original_from old) i
 
 -- nothing is told of the next steps but the last, unless they write a line
 abbrev pub AreUntold : View → (i count : ℕ) → Type 0
@@ -75,7 +75,7 @@ silent_on {view} (suc n) {old} {now} {last} {i} {count} {text} fewer untold (y, 
     let between = between_on old y w (i + n) None (Some []) (Some text) (Some text) first.inside step (appends-nothing (Some text)) going in
     let whole : IsSilent view old last i (i + n + 1) text = record {
       inside = is_in old w last (i + n + 1) (Some []) (Some text) None between followed.entered refl;
-      told = told_silent view runs (i + n) (i + n + 1) next (untold (i + n + 1) (omega arith) (omega (arith, fewer))) (grows ∙ append-nil (runs (i + n)).lines) ∙ first.told;
+      told = told_silent view (program_of old.kernel) runs (i + n) (i + n + 1) next (untold (i + n + 1) (omega arith) (omega (arith, fewer))) (grows ∙ append-nil (runs (i + n)).lines) ∙ first.told;
     } in
     subst (λ k. IsSilent view old last i k text) (omega arith) whole
 
@@ -106,12 +106,13 @@ last_taken {old = old} {now} {i = i} {text = text} between wanted step one =
 pub record HasGone (view : View) (old now new : Machine) (i j : ℕ) (line : Option Line) : Type 0 where
   pub text : List ℕ
   pub between : IsBetween old new j (Some []) (Some text)
-  pub told : told_text view (original_from old) j ≡ told_text view (original_from old) i ++ step_text view j (line_before line []) (flat_of now).now (flat_of new).now
+  pub told : told_text view (program_of old.kernel) (original_from old) j ≡ told_text view (program_of old.kernel) (original_from old) i ++ moment_text view (program_of old.kernel) j (line_before line []) (flat_of now) (flat_of new)
 
 gone_by : {view : View} {old now new : Machine} {i count : ℕ} {line : Option Line} {text : List ℕ} → AreUntold view i count → IsBetween old now i (Some []) (Some text)
     → IsLast view old now new i count line text → new.end ≡ None → HasGone view old now new i (i + count) line
 gone_by {view} {old} {now} {new} {i} {count} {line} {text} untold between last going =
     let runs = original_from old in
+    let program = program_of old.kernel in
     let j = i + last.at in
     let lines = line_before line [] in
     let next : i + count ≡ suc j = omega (arith, last.before) in
@@ -119,15 +120,15 @@ gone_by {view} {old} {now} {new} {i} {count} {line} {text} untold between last g
     let behind : IsBetween old new (i + count) (Some []) (Some (text ++ lines_text lines)) =
     rw one at (between_on old last.last new j line (Some []) (Some text) (Some (text ++ lines_text lines)) last.silent.inside last.step refl going) in
     let grows : (runs (i + count)).lines ≡ (runs j).lines ++ lines = rw one at (step_lines last.silent.inside last.step.way going) in
-    let last_told : step_text view (i + count) lines (runs j).state.now (flat_of new).now ≡ step_text view (i + count) lines (flat_of now).now (flat_of new).now =
-    beside_same view (i + count) lines (runs j).state.now (flat_of now).now (flat_of new).now i last.at (λ step from to. untold step from (omega (arith, last.before, to)))
-    (λ none. let same : j ≡ i = omega (arith, none) in rw same (ap (λ (m : Moment). m.now) (left between.ran))) in
+    let last_told : moment_text view program (i + count) lines (runs j).state (flat_of new) ≡ moment_text view program (i + count) lines (flat_of now) (flat_of new) =
+    beside_same view program (i + count) lines (runs j).state (flat_of now) (flat_of new) i last.at (λ step from to. untold step from (omega (arith, last.before, to)))
+    (λ none. let same : j ≡ i = omega (arith, none) in rw same (left between.ran)) in
     record {
       text = text ++ lines_text lines;
       between = behind;
-      told = told_on view runs j (i + count) lines (flat_of new) next grows (left behind.ran)
-          ∙ ap (λ t. told_text view runs j ++ t) last_told
-          ∙ ap (λ t. t ++ step_text view (i + count) lines (flat_of now).now (flat_of new).now) last.silent.told;
+      told = told_on view program runs j (i + count) lines (flat_of new) next grows (left behind.ran)
+          ∙ ap (λ t. told_text view program runs j ++ t) last_told
+          ∙ ap (λ t. t ++ moment_text view program (i + count) lines (flat_of now) (flat_of new)) last.silent.told;
     }
 
 pub refused_end : {now new : Machine} {end : End} → Entering now new (Some end) → new.end ≡ Some end
@@ -148,7 +149,7 @@ pub record HasEnded (view : View) (old new : Machine) (i count n : ℕ) (end : E
   pub most : done ≤ i + count
   pub one : count ≤ 1 → done ≡ i
   pub steps : new.steps ≡ old.steps + done
-  pub told : told_text view (original_from old) done ≡ told_text view (original_from old) i
+  pub told : told_text view (program_of old.kernel) (original_from old) done ≡ told_text view (program_of old.kernel) (original_from old) i
 
 -- .. at the same step
 ended_here : {view : View} {old new : Machine} {i count n : ℕ} {end : End} {text : List ℕ} → HasAdvanced old new n (Some []) (Some text) (Ok end) → new.steps ≡ old.steps + i

@@ -3,10 +3,10 @@ use Rattle.std.proofs.Common.{◌≡◌, ℕ, ◌<◌, ◌≤◌, List, [], ◌�
 use Rattle.std.specs.Prelude.{Option, Some, None, MatchOption}
 use Rattle.std.specs.Str.Parse.{digits_value}
 use Rattle.input_script.specs.Grammar.{number_of}
-use Rattle.tk_watch.specs.ViewWords.{BeginWith, HasNoAddress, IsAddress, AskForChanges, AskWithWords, AskForTrace, AskForVisits}
+use Rattle.tk_watch.specs.ViewWords.{BeginWith, HasNoAddress, IsAddress, AskForAccesses, AskForBytes, AskForChanges, AskWithWords, AskForTrace, AskForVisits}
 use Rattle.tk_watch.specs.Words.{AskForView, view_in, views}
 use Rattle.tk_watch.specs.declared.view.View.{View}
-use Rattle.tk_watch.specs.declared.view.View.TheVariants.{Visits, Changes, Trace}
+use Rattle.tk_watch.specs.declared.view.View.TheVariants.{Visits, Changes, Trace, Accesses}
 use Rattle.arrayvec.specs.ArrayVec.{ArrayVec}
 
 pub one_number : (word : List ℕ) (a b : ℕ) → number_of word ≡ Some a → number_of word ≡ Some b → a ≡ b
@@ -26,12 +26,12 @@ trace_from from rows rest behind view none ask = let both : None ≡ Some ask.0 
 pub trace_rows : (from rows : List ℕ) (rest behind : List (List ℕ)) (view : View) → number_of rows ≡ None → ¬ AskForTrace (from ∷ rows ∷ rest) behind view
 trace_rows from rows rest behind view none ask = let both : None ≡ Some ask.1 = sym none ∙ ask.3 in absurd (cc)
 
--- no changes
-pub changes_first : (first size : List ℕ) (rest behind : List (List ℕ)) (view : View) → ((a : ℕ) → ¬ IsAddress first a) → ¬ AskForChanges (first ∷ size ∷ rest) behind view
-changes_first first size rest behind view none ask = none ask.0 ask.2
+-- no bytes
+pub bytes_first : (lowest most : ℕ) (first size : List ℕ) (rest behind : List (List ℕ)) (at count : ℕ) → ((a : ℕ) → ¬ IsAddress first a) → ¬ AskForBytes lowest most (first ∷ size ∷ rest) behind at count
+bytes_first lowest most first size rest behind at count none ask = none at ask.0
 
-pub changes_size : (first size : List ℕ) (rest behind : List (List ℕ)) (view : View) → number_of size ≡ None → ¬ AskForChanges (first ∷ size ∷ rest) behind view
-changes_size first size rest behind view none ask = let both : None ≡ Some ask.1 = sym none ∙ ask.3 in absurd (cc)
+pub bytes_size : (lowest most : ℕ) (first size : List ℕ) (rest behind : List (List ℕ)) (at count : ℕ) → number_of size ≡ None → ¬ AskForBytes lowest most (first ∷ size ∷ rest) behind at count
+bytes_size lowest most first size rest behind at count none ask = let both : None ≡ Some count = sym none ∙ ask.1 in absurd (cc)
 
 -- Addresses in front. -------------------------------------------------------------------------------------------
 
@@ -91,11 +91,21 @@ visits_told words places rest (Some f) front none few is =
 
 -- Views. ----------------------------------------------------------------------------------------------------------
 
+one_bytes : (lowest most : ℕ) (words b c : List (List ℕ)) (a n d m : ℕ) → AskForBytes lowest most words b a n → AskForBytes lowest most words c d m → (a ≡ d) × (n ≡ m) × (b ≡ c)
+one_bytes lowest most [] b c a n d m first second = absurd first
+one_bytes lowest most (word ∷ []) b c a n d m first second = absurd first
+one_bytes lowest most (word ∷ size ∷ rest) b c a n d m first second =
+    (one_address word a d first.0 second.0, one_number size n m first.1 second.1, first.6 ∙ sym second.6)
+
 one_changes : (rest b c : List (List ℕ)) (x y : View) → AskForChanges rest b x → AskForChanges rest c y → (x ≡ y) × (b ≡ c)
-one_changes [] b c x y first second = absurd first
-one_changes (word ∷ []) b c x y first second = absurd first
-one_changes (word ∷ size ∷ rest) b c x y first second =
-    (first.7 ∙ ap₂ Changes (one_address word first.0 second.0 first.2 second.2) (one_number size first.1 second.1 first.3 second.3) ∙ sym second.7, first.8 ∙ sym second.8)
+one_changes rest b c x y first second =
+    let same = one_bytes 0x100 64 rest b c first.0 first.1 second.0 second.1 first.2 second.2 in
+    (first.3 ∙ ap₂ Changes same.0 same.1 ∙ sym second.3, same.2)
+
+one_accesses : (rest b c : List (List ℕ)) (x y : View) → AskForAccesses rest b x → AskForAccesses rest c y → (x ≡ y) × (b ≡ c)
+one_accesses rest b c x y first second =
+    let same = one_bytes 0 65536 rest b c first.0 first.1 second.0 second.1 first.2 second.2 in
+    (first.3 ∙ ap₂ Accesses same.0 same.1 ∙ sym second.3, same.2)
 
 one_trace : (rest b c : List (List ℕ)) (x y : View) → AskForTrace rest b x → AskForTrace rest c y → (x ≡ y) × (b ≡ c)
 one_trace [] b c x y first second = absurd first
@@ -107,17 +117,26 @@ one_trace (word ∷ rows ∷ rest) b c x y first second =
 only_visits : (word : List ℕ) (rest behind : List (List ℕ)) (view : View) → word ≡ codes "visits" → AskWithWords word rest behind view → AskForVisits rest behind view
 only_visits word rest behind view is (inl ask) = ask.1
 only_visits word rest behind view is (inr (inl ask)) = let e : codes "visits" ≡ codes "changes" = sym is ∙ ask.0 in absurd (cc)
-only_visits word rest behind view is (inr (inr ask)) = let e : codes "visits" ≡ codes "trace" = sym is ∙ ask.0 in absurd (cc)
+only_visits word rest behind view is (inr (inr (inl ask))) = let e : codes "visits" ≡ codes "trace" = sym is ∙ ask.0 in absurd (cc)
+only_visits word rest behind view is (inr (inr (inr ask))) = let e : codes "visits" ≡ codes "accesses" = sym is ∙ ask.0 in absurd (cc)
 
 only_changes : (word : List ℕ) (rest behind : List (List ℕ)) (view : View) → word ≡ codes "changes" → AskWithWords word rest behind view → AskForChanges rest behind view
 only_changes word rest behind view is (inl ask) = let e : codes "changes" ≡ codes "visits" = sym is ∙ ask.0 in absurd (cc)
 only_changes word rest behind view is (inr (inl ask)) = ask.1
-only_changes word rest behind view is (inr (inr ask)) = let e : codes "changes" ≡ codes "trace" = sym is ∙ ask.0 in absurd (cc)
+only_changes word rest behind view is (inr (inr (inl ask))) = let e : codes "changes" ≡ codes "trace" = sym is ∙ ask.0 in absurd (cc)
+only_changes word rest behind view is (inr (inr (inr ask))) = let e : codes "changes" ≡ codes "accesses" = sym is ∙ ask.0 in absurd (cc)
 
 only_trace : (word : List ℕ) (rest behind : List (List ℕ)) (view : View) → word ≡ codes "trace" → AskWithWords word rest behind view → AskForTrace rest behind view
 only_trace word rest behind view is (inl ask) = let e : codes "trace" ≡ codes "visits" = sym is ∙ ask.0 in absurd (cc)
 only_trace word rest behind view is (inr (inl ask)) = let e : codes "trace" ≡ codes "changes" = sym is ∙ ask.0 in absurd (cc)
-only_trace word rest behind view is (inr (inr ask)) = ask.1
+only_trace word rest behind view is (inr (inr (inl ask))) = ask.1
+only_trace word rest behind view is (inr (inr (inr ask))) = let e : codes "trace" ≡ codes "accesses" = sym is ∙ ask.0 in absurd (cc)
+
+only_accesses : (word : List ℕ) (rest behind : List (List ℕ)) (view : View) → word ≡ codes "accesses" → AskWithWords word rest behind view → AskForAccesses rest behind view
+only_accesses word rest behind view is (inl ask) = let e : codes "accesses" ≡ codes "visits" = sym is ∙ ask.0 in absurd (cc)
+only_accesses word rest behind view is (inr (inl ask)) = let e : codes "accesses" ≡ codes "changes" = sym is ∙ ask.0 in absurd (cc)
+only_accesses word rest behind view is (inr (inr (inl ask))) = let e : codes "accesses" ≡ codes "trace" = sym is ∙ ask.0 in absurd (cc)
+only_accesses word rest behind view is (inr (inr (inr ask))) = ask.1
 
 one_with_words : (word : List ℕ) (rest b c : List (List ℕ)) (x y : View) → AskWithWords word rest b x → AskWithWords word rest c y → (x ≡ y) × (b ≡ c)
 one_with_words word rest b c x y (inl (is, first)) other =
@@ -125,12 +144,14 @@ one_with_words word rest b c x y (inl (is, first)) other =
     let same = begin_one rest first.0 second.0 b c first.1 second.1 in
     (first.4 ∙ ap (λ p. Visits (record { items = p })) same.0 ∙ sym second.4, same.1)
 one_with_words word rest b c x y (inr (inl (is, first))) other = one_changes rest b c x y first (only_changes word rest c y is other)
-one_with_words word rest b c x y (inr (inr (is, first))) other = one_trace rest b c x y first (only_trace word rest c y is other)
+one_with_words word rest b c x y (inr (inr (inl (is, first)))) other = one_trace rest b c x y first (only_trace word rest c y is other)
+one_with_words word rest b c x y (inr (inr (inr (is, first)))) other = one_accesses rest b c x y first (only_accesses word rest c y is other)
 
 plain_with_words : (word : List ℕ) (rest b : List (List ℕ)) (view other : View) → view_in views word ≡ Some view → AskWithWords word rest b other → ⊥
 plain_with_words word rest b view other plain (inl steps) = let e = subst (λ w. view_in views w ≡ Some view) steps.0 plain in absurd (cc)
 plain_with_words word rest b view other plain (inr (inl steps)) = let e = subst (λ w. view_in views w ≡ Some view) steps.0 plain in absurd (cc)
-plain_with_words word rest b view other plain (inr (inr steps)) = let e = subst (λ w. view_in views w ≡ Some view) steps.0 plain in absurd (cc)
+plain_with_words word rest b view other plain (inr (inr (inl steps))) = let e = subst (λ w. view_in views w ≡ Some view) steps.0 plain in absurd (cc)
+plain_with_words word rest b view other plain (inr (inr (inr steps))) = let e = subst (λ w. view_in views w ≡ Some view) steps.0 plain in absurd (cc)
 
 pub one_view : (words b c : List (List ℕ)) (v w : View) → AskForView words b v → AskForView words c w → (v ≡ w) × (b ≡ c)
 one_view [] b c v w first second = absurd first
@@ -159,7 +180,12 @@ by_changes word rest found is = tells_also (AskForChanges rest) (AskWithWords wo
 
 pub by_trace : (word : List ℕ) (rest : List (List ℕ)) (found : Option (View × Bor (List (String Global)))) → word ≡ codes "trace" → Tells (AskForTrace rest) found
     → Tells (AskWithWords word rest) found
-by_trace word rest found is = tells_also (AskForTrace rest) (AskWithWords word rest) found (λ behind view ask. inr (inr (is, ask))) (λ behind view ask. only_trace word rest behind view is ask)
+by_trace word rest found is = tells_also (AskForTrace rest) (AskWithWords word rest) found (λ behind view ask. inr (inr (inl (is, ask)))) (λ behind view ask. only_trace word rest behind view is ask)
+
+pub by_accesses : (word : List ℕ) (rest : List (List ℕ)) (found : Option (View × Bor (List (String Global)))) → word ≡ codes "accesses" → Tells (AskForAccesses rest) found
+    → Tells (AskWithWords word rest) found
+by_accesses word rest found is =
+    tells_also (AskForAccesses rest) (AskWithWords word rest) found (λ behind view ask. inr (inr (inr (is, ask)))) (λ behind view ask. only_accesses word rest behind view is ask)
 
 no_front : (w : List ℕ) (rest behind : List (List ℕ)) (view : View) → None ≡ view_in views w → ((b : List (List ℕ)) (v : View) → ¬ AskWithWords w rest b v) → ¬ AskForView (w ∷ rest) behind view
 no_front w rest behind view plain none (inl ask) = let e : None ≡ Some view = plain ∙ ask.0 in absurd (cc)

@@ -1,16 +1,18 @@
 -- Serves private functions: what a view keeps from one step to the next, and what is told by it.
 use Rattle.std.specs.Prelude.{⊤, ◌≡◌, ◌==◌, ℕ, ◌+◌, ◌<◌, ◌≤◌, false, List, slice_index, Option}
 use Rattle.mote_devices.specs.declared.line.Line.{Line}
-use Rattle.flat_machine.specs.FlatMachine.{FlatState, Moment, On, is_taken, next_of}
+use Rattle.flat_machine.specs.FlatMachine.{FlatState, Moment, On, Program, is_taken, next_of}
 use Rattle.kernel_entry.specs.Seen.{program as program_of}
 use Rattle.program_steps.specs.Interrupts.{is_taken_now}
 use Rattle.program_steps.specs.Machines.{Machine, flat_of}
 use Rattle.tk_watch.specs.declared.view.View.{View}
-use Rattle.tk_watch.specs.declared.view.View.TheVariants.{Trace, Visits, Changes}
+use Rattle.tk_watch.specs.declared.view.View.TheVariants.{Trace, Visits, Changes, Accesses}
 use Rattle.tk_watch.specs.StepTexts.{step_text}
 use Rattle.tk_watch.specs.TraceText.{has_row}
 use Rattle.tk_watch.specs.VisitsText.{is_among}
 use Rattle.tk_watch.specs.ChangesText.{changes_text}
+use Rattle.tk_watch.specs.AccessesText.{accesses_text, next_access, next_by}
+use Rattle.tk_watch.specs.declared.accesses.Access.{Access}
 
 -- there are so many bytes at these addresses, and not too many
 abbrev pub IsPossible : View → Type 0
@@ -22,6 +24,7 @@ abbrev pub IsUntold : View → (step : ℕ) → Type 0
 IsUntold (Trace first count) step = has_row first count step ≡ false
 IsUntold (Visits places) step = ⊥
 IsUntold (Changes at count) step = ⊥
+IsUntold (Accesses at count) step = ⊥
 IsUntold _ step = ⊤
 
 -- just the places are marked, by a 1
@@ -57,7 +60,18 @@ abbrev pub AreHeldBeside : View → (memory : List ℕ) → (from to : ℕ) → 
 AreHeldBeside (Changes at count) memory from to bytes = (from ≤ to) × (to ≤ count) × ((i : ℕ) → i < count → ¬ IsWithin from to i → slice_index bytes i ≡ slice_index memory (at + i))
 AreHeldBeside _ memory from to bytes = ⊤
 
--- what is told of a step that began at this pc, with these bytes held
-abbrev pub step_told : View → (step : ℕ) → List Line → (pc : ℕ) → (bytes : List ℕ) → FlatState → List ℕ
-step_told (Changes at count) step lines pc bytes after = changes_text at count step pc (slice_index bytes) (λ i. slice_index after.memory (at + i))
-step_told view step lines pc bytes after = step_text view step lines after after
+-- this is what the next step reads and writes by address, where that is told
+abbrev pub IsForeseen : View → Machine → Access → Type 0
+IsForeseen (Accesses at count) m access = access ≡ next_by (is_taken_now m) (program_of m.kernel).image (flat_of m).now.cpu
+IsForeseen _ m access = ⊤
+
+-- .. at a moment of the original program
+abbrev pub IsNext : View → Program → Moment → Access → Type 0
+IsNext (Accesses at count) program m access = access ≡ next_access program m
+IsNext _ program m access = ⊤
+
+-- what is told of a step that began at this pc with this SREG, these bytes held, and was to read and write this
+abbrev pub step_told : View → (step : ℕ) → List Line → (pc sreg : ℕ) → (bytes : List ℕ) → Access → FlatState → List ℕ
+step_told (Changes at count) step lines pc sreg bytes access after = changes_text at count step pc (slice_index bytes) (λ i. slice_index after.memory (at + i))
+step_told (Accesses first count) step lines pc sreg bytes access after = accesses_text first count step pc sreg access after.cpu
+step_told view step lines pc sreg bytes access after = step_text view step lines after after

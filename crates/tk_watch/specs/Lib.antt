@@ -9,6 +9,7 @@ pub mod ProfileText
 pub mod TraceText
 pub mod VisitsText
 pub mod ChangesText
+pub mod AccessesText
 pub mod StepTexts
 pub mod Touching
 pub mod Kept

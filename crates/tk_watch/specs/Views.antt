@@ -12,7 +12,7 @@ use Rattle.cli_words.specs.declared.status.Status.{Status}
 use Rattle.cli_words.specs.declared.status.Status.TheVariants as status
 use Rattle.cli_words.specs.Stream.{Stream}
 use Rattle.tkernel_cli.specs.DumpRuns.{silent}
-use Rattle.tkernel_cli.specs.Runs.{Says, AreUnlisted, RunsToTheEnd, RunsIntoAFault, first_start, original_of, whole_run, checkpoints_of, status_of_end}
+use Rattle.tkernel_cli.specs.Runs.{Says, AreUnlisted, RunsToTheEnd, RunsIntoAFault, first_start, original_of, own_program, whole_run, checkpoints_of, status_of_end}
 use Rattle.tk_watch.specs.declared.view.View.{View}
 use Rattle.tk_watch.specs.declared.view.View.TheVariants.{State, Memory, Profile}
 use Rattle.tk_watch.specs.MemoryText.{memory_text}
@@ -31,7 +31,7 @@ left_text _ slots events times operations s = []
 -- What a view shows of the original program's run up to a moment: what it tells of each step, and at the end.
 abbrev pub shown : View → Request → (operations : ℕ) → Moment → List ℕ
 shown view request operations s =
-    told_text view (original_of request) s.now.steps
+    told_text view (own_program request) (original_of request) s.now.steps
     ++ left_text view request.options.swap (length request.script.events) (λ a. times_at (original_of request) a s.now.steps) operations s.now
 
 -- The text of a view, where the run comes to the original's end: behind what is shown of all of it stands the stop line of
@@ -52,7 +52,7 @@ pub record ShowsCut (view : View) (request : Request) (before now : Stream) (tol
   pub rose : Rose before.faults now.faults
   pub done : ℕ
   pub within : done ≤ request.options.steps
-  pub put : CutShort before.told now.told (told_text view (original_of request) done)
+  pub put : CutShort before.told now.told (told_text view (own_program request) (original_of request) done)
 
 -- A machine runs as that of `run` does (`Runs`), but its own lines go nowhere. What the view shows of it is said, with the stop
 -- line and the status of `run`.

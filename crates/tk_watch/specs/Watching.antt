@@ -6,6 +6,7 @@ use Rattle.byte_streams.specs.Faults.{Rose}
 use Rattle.byte_streams.specs.Streams.{CutShort, IsSent}
 use Rattle.printed_text.specs.Gathering.{turn_steps}
 use Rattle.printed_text.specs.StopLines.{end_line}
+use Rattle.kernel_entry.specs.Seen.{program as program_of}
 use Rattle.kernel_entry.specs.declared.kernel.End.{End}
 use Rattle.kernel_entry.specs.declared.kernel.End.TheVariants as ends
 use Rattle.program_steps.specs.Machines.{Machine, flat_of}
@@ -26,13 +27,13 @@ use Rattle.tk_watch.specs.Views.{left_text}
 pub record HasTold (view : View) (old new : Machine) (n : ℕ) (gathered : List ℕ) (before after : Option (List ℕ)) (end : End) : Type 0 where
   pub text : List ℕ
   pub advanced : HasAdvanced old new n (Some []) (Some text) (Ok end)
-  pub sent : IsSent (told_text view (original_from old) new.steps) gathered before after
+  pub sent : IsSent (told_text view (program_of old.kernel) (original_from old) new.steps) gathered before after
 
 -- the sink failed, and what went out is cut short of what is told of some steps, at most as many as there were to be
 pub record IsCut (view : View) (old : Machine) (n : ℕ) (before after : Option (List ℕ)) : Type 0 where
   pub done : ℕ
   pub within : done ≤ n
-  pub put : CutShort before after (told_text view (original_from old) done)
+  pub put : CutShort before after (told_text view (program_of old.kernel) (original_from old) done)
 
 abbrev pub HasWatched : View → (old new : Machine) → ℕ → List ℕ → (before after : Option (List ℕ)) → Result End Failed → Type 0
 HasWatched view old new n gathered before after (Ok end) = HasTold view old new n gathered before after end
@@ -41,7 +42,7 @@ HasWatched view old new n gathered before after (Err e) = IsCut view old n befor
 -- the sink was one that had taken all that is told of the first so many steps, behind what it had taken before
 pub record HadAll {K : Type 0} (taken : K → Option (List ℕ)) (view : View) (old : Machine) (before : K) (steps : ℕ) : Type 0 where
   pub sink : K
-  pub put : Appends (taken before) (taken sink) (told_text view (original_from old) steps)
+  pub put : Appends (taken before) (taken sink) (told_text view (program_of old.kernel) (original_from old) steps)
 
 -- .. at each turn in so many steps
 abbrev pub GoOutInTurn : {K : Type 0} → (K → Option (List ℕ)) → View → Machine → K → ℕ → Type 0
@@ -80,7 +81,7 @@ end_text view slots events times end m = left_text view slots events times m.ker
 -- before that.
 pub data HasShown (view : View) (slots events : ℕ) (old new : Machine) (n : ℕ) (before now : Stream) (told : Status) : Type 0 where
   Whole : (text : List ℕ) (end : End) → HasAdvanced old new n (Some []) (Some text) (Ok end)
-      → Says (status_of_stop end) (told_text view (original_from old) new.steps ++ end_text view slots events (λ a. times_at (original_from old) a new.steps) end new) before now told
+      → Says (status_of_stop end) (told_text view (program_of old.kernel) (original_from old) new.steps ++ end_text view slots events (λ a. times_at (original_from old) a new.steps) end new) before now told
       → HasShown view slots events old new n before now told
   Cut : told ≡ status.WriteFault → Rose before.faults now.faults → IsCut view old n before.told now.told → HasShown view slots events old new n before now told
 

@@ -32,7 +32,7 @@ abbrev pub AskToWatch : List (List ℕ) → View → RunOptions → Type 0
 AskToWatch words view options = (behind : List (List ℕ)) × AskForView words behind view × IsCommand (codes "run" ∷ behind) (Run options)
 
 abbrev pub usage_text : List ℕ
-usage_text = codes "usage: tkwatch lines | state | memory | profile | trace N COUNT | visits 0xPC.. | changes 0xADDR COUNT [--steps N] [--quantum Q] [--swap S]\n"
+usage_text = codes "usage: tkwatch lines | state | memory | profile | trace N COUNT | visits 0xPC.. | changes 0xADDR COUNT | accesses 0xADDR COUNT [--steps N] [--quantum Q] [--swap S]\n"
 
 abbrev pub usage : Status → Job
 usage own = Print own (record { items = usage_text })

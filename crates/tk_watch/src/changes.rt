@@ -8,7 +8,6 @@ ghost use Rattle.flash_words.specs.Layouts.{image_of};
 ghost use Rattle.flash_words.specs.Pages.{word_at};
 ghost use Rattle.heap_frames.specs.Memory.{vmem};
 ghost use Rattle.heap_frames.specs.Paged.{IsPaged};
-ghost use Rattle.kernel_entry.specs.Parts.{core_of};
 ghost use Rattle.printed_text.specs.Gathering.{Gathers};
 ghost use Rattle.program_steps.specs.Interrupts.{is_taken_now};
 ghost use Rattle.program_steps.specs.Ready.{IsGoing};
@@ -17,10 +16,10 @@ ghost use Rattle.tk_watch.specs.ChangesText.{change_line as change_line_of, chan
 ghost use Rattle.tk_watch.specs.Kept.{IsWithin, Spares};
 ghost use Rattle.tk_watch.specs.Touching.{IsTouched, LiesInImage};
 
-use crate::reading::memory_byte;
+use crate::reading::{core, memory_byte};
 use crate::steps::Outset;
 use crate::view::MOST_BYTES;
-use avr_exec::{Ask, Cpu, asks};
+use avr_exec::{Ask, asks};
 use avr_isa::Instr;
 use byte_streams::{Failed, Sink};
 use flash_model::{Flash, Layout};
@@ -94,19 +93,6 @@ fn has_one_word(flash: &Flash, at: u16) -> bool
     match flash.decoded(at.wrapping_sub(1)) {
         Some(decoded) => decoded.next_size == 1,
         None => false,
-    }
-}
-
-/// The program's core, at this pc.
-#[inline(always)]
-fn core(k: &Kernel, pc: u16) -> Cpu
-    ensures same { result ≡ core_of k.now pc }
-{
-    Cpu {
-        r: k.mote.cpu.r,
-        sreg: k.mote.cpu.sreg,
-        sp: k.mote.sram.vsp(),
-        pc,
     }
 }
 

@@ -10,6 +10,7 @@
 //! - `trace N COUNT`: the core and its registers as they are after N steps, and after each later one, in up to COUNT rows;
 //! - `visits 0xPC ..`: after which steps the program stands at one of up to 16 word addresses;
 //! - `changes 0xADDR COUNT`: each byte that a step changes, of up to 64 from a data address on;
+//! - `accesses 0xADDR COUNT`: each byte that a step reads or writes by address, of those from a data address on;
 //!
 //! and the words behind it are its own, if it has some, and then the options of `run`. Behind what is shown stands the run's stop
 //! line, and the status is the run's.
@@ -26,6 +27,8 @@
 //! makes the steps of each view but `profile`, in turns of as many steps as the view tells nothing of.
 #![tactic(auto)]
 
+mod access_rows;
+mod accesses;
 mod changes;
 mod lines;
 mod memory;

@@ -1,10 +1,13 @@
-//! What stands in the memory of the original program, read off its mote, which stays as it is.
+//! What stands in the core and the memory of the original program, read off its mote, which stays as it is.
 ghost use Rattle.std.specs.Prelude.{◌≡◌, ◌<◌, ◌/◌, ◌%◌, slice_index, IfSome};
 ghost use Rattle.heap_frames.specs.Frames.{frame_of, holds};
 ghost use Rattle.heap_frames.specs.Memory.{heap_byte as heap_byte_of, slot_byte as slot_byte_of, vmem};
 ghost use Rattle.heap_frames.specs.Paged.{IsPaged};
+ghost use Rattle.kernel_entry.specs.Parts.{core_of};
 
+use avr_exec::Cpu;
 use flat_machine::{AddrClass, class};
+use kernel_entry::Kernel;
 use mote_core::Mote;
 use sram_layout::{FRAMES, Sram};
 use swap_store::Swap;
@@ -17,6 +20,19 @@ const EMPTY: u8 = 0;
 
 /// No slot, in the map of slots.
 const NO_SLOT: u8 = 0xFF;
+
+/// The program's core, at this pc.
+#[inline(always)]
+pub(crate) fn core(k: &Kernel, pc: u16) -> Cpu
+    ensures same { result ≡ core_of k.now pc }
+{
+    Cpu {
+        r: k.mote.cpu.r,
+        sreg: k.mote.cpu.sreg,
+        sp: k.mote.sram.vsp(),
+        pc,
+    }
+}
 
 /// The byte at an address of memory.
 pub(crate) fn memory_byte(mote: &Mote, a: u16) -> u8

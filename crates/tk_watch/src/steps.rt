@@ -8,12 +8,15 @@ ghost use Rattle.program_steps.specs.Machines.{flat_of};
 ghost use Rattle.program_steps.specs.Ready.{IsGoing, IsQuiet};
 ghost use Rattle.program_steps.specs.Wholes.{whole};
 ghost use Rattle.step_laws.specs.Moves.{line_before};
-ghost use Rattle.tk_watch.specs.Kept.{AreHeld, AreHeldBeside, IsMarked, IsPossible, IsSpared, IsUntold, step_told};
+ghost use Rattle.tk_watch.specs.Kept.{AreHeld, AreHeldBeside, IsForeseen, IsMarked, IsPossible, IsSpared, IsUntold, step_told};
 ghost use Rattle.tk_watch.specs.StepTexts.{front_text};
 ghost use Rattle.tk_watch.specs.Watching.{GoOutInTurn, HasWatched};
 
+use crate::access_rows::tell_accesses;
+use crate::accesses::{Access, next_access};
 use crate::changes::{bytes_from, tell_changes, within_reach};
 use crate::lines::tell_line;
+use crate::reading::core;
 use crate::trace::{rowless_steps, tell_row};
 use crate::turn::turn;
 use crate::view::{MOST_BYTES, View};
@@ -25,12 +28,15 @@ use page_cursor::Cursor;
 use printed_text::{Gathered, send_in_turn, up_to_turn};
 use program_steps::{Progress, at_bound};
 
-/// What is known of a turn before it is made: the address at which its step begins, and which of the watched bytes the step may
-/// change, those from the first of these numbers on in front of the other.
+/// What is known of a turn before it is made: the address at which its step begins, and SREG; which of the watched bytes the step may
+/// change, those from the first of these numbers on in front of the other; and what the step reads and writes by address, where that
+/// is told.
 #[derive(Clone, Copy)]
 pub(crate) struct Outset {
     pub pc: u16,
+    pub sreg: u8,
     pub reach: (usize, usize),
+    pub access: Access,
 }
 
 /// Does up to n steps, and gathers what a view tells in front of them, and of each.
@@ -116,11 +122,27 @@ fn outset_of(view: &View, k: &Kernel, p: &Progress) -> Outset
     requires ready { IsGoing (whole k.now p.now) }
     requires possible { IsPossible view.now }
     ensures pc { result.pc ≡ p.now.at }
+    ensures sreg { result.sreg ≡ k.now.mote.cpu.sreg }
     ensures spared { IsSpared view.now (whole k.now p.now) result.reach.0 result.reach.1 }
+    ensures foreseen { IsForeseen view.now (whole k.now p.now) result.access }
 {
     Outset {
         pc: p.at,
+        sreg: k.mote.cpu.sreg,
         reach: reach_of(view, k, p),
+        access: access_in(view, k, p),
+    }
+}
+
+/// What the next step reads and writes by address, where that is told.
+#[inline(always)]
+fn access_in(view: &View, k: &Kernel, p: &Progress) -> Access
+    requires ready { IsGoing (whole k.now p.now) }
+    ensures foreseen { IsForeseen view.now (whole k.now p.now) result }
+{
+    match view {
+        View::Accesses(_, _) => next_access(k, p),
+        _ => Access::Nothing,
     }
 }
 
@@ -147,7 +169,7 @@ fn untold_steps(view: &View, done: u64) -> u64
 {
     match view {
         View::Trace(first, count) => rowless_steps((*first, *count), done).min(up_to_turn(done)),
-        View::Visits(_) | View::Changes(_, _) => 1,
+        View::Visits(_) | View::Changes(_, _) | View::Accesses(_, _) => 1,
         _ => up_to_turn(done),
     }
 }
@@ -172,7 +194,7 @@ fn tell_step<K: Sink>(
     requires size { length bytes.old ≡ 64 }
     requires held { AreHeldBeside view.now (vmem k.now.mote.sram k.now.mote.swap) outset.reach.0 outset.reach.1 bytes.old }
     ensures text { Gathers gathered.old.items gathered.new.items (K.taken out.old) (K.taken out.new) result
-        (step_told view.now step (line_before p.now.line []) outset.pc bytes.old (flat_of (whole k.now p.now)).now) }
+        (step_told view.now step (line_before p.now.line []) outset.pc outset.sreg bytes.old outset.access (flat_of (whole k.now p.now)).now) }
     ensures held { OnOk result (AreHeld view.now (vmem k.now.mote.sram k.now.mote.swap) bytes.new) }
     ensures size { length bytes.new ≡ 64 }
     ensures cause { HasCause (K.faults out.old) (K.faults out.new) result }
@@ -183,6 +205,19 @@ fn tell_step<K: Sink>(
         View::Visits(_) => tell_visit(marks, step, p.at, gathered, out),
         View::Changes(at, count) => {
             tell_changes(step, outset, (*at, *count), &k.mote, bytes, gathered, out)
+        }
+        View::Accesses(first, count) => {
+            let began = (outset.pc, outset.sreg);
+            let after = core(k, p.at);
+            tell_accesses(
+                step,
+                began,
+                (*first, *count),
+                &outset.access,
+                &after,
+                gathered,
+                out,
+            )
         }
         _ => Ok(()),
     }

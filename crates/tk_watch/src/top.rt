@@ -6,7 +6,7 @@ ghost use Rattle.cli_words.specs.declared.request.Request.{Request as RequestVal
 ghost use Rattle.cli_words.specs.declared.status.Status.TheVariants.{Done, NoMemory, Usage};
 ghost use Rattle.byte_streams.specs.Streams.{input_of};
 ghost use Rattle.cli_words.specs.Stream.{stream};
-ghost use Rattle.tkernel_cli.specs.Runs.{Says, original_of};
+ghost use Rattle.tkernel_cli.specs.Runs.{Says, original_of, own_program};
 ghost use Rattle.tk_watch.specs.declared.view.View.{View};
 ghost use Rattle.tk_watch.specs.declared.view.View.TheVariants.{Lines};
 ghost use Rattle.tk_watch.specs.Answer.{IsAnswer, IsExact};
@@ -48,7 +48,7 @@ pub fn tkwatch<S: Source, K: Sink>(
         (stream K.taken K.faults out.old) (stream K.taken K.faults out.new)
         result }
     // What the lines of a run are told by is each line that `run` prints of it, behind a number.
-    ensures lines { (request : RequestValue) (n : ℕ) → TellsNumbered (original_of request n).lines (told_text Lines (original_of request) n) }
+    ensures lines { (request : RequestValue) (n : ℕ) → TellsNumbered (original_of request n).lines (told_text Lines (own_program request) (original_of request) n) }
 {
     match asked(words) {
         Some((view, options)) => match run_job(alloc, options, input) {

@@ -7,7 +7,7 @@ use arrayvec::ArrayVec;
 
 /// What is printed where the words ask for no view.
 pub(crate) const USAGE: &[u8] =
-    b"usage: tkwatch lines | state | memory | profile | trace N COUNT | visits 0xPC.. | changes 0xADDR COUNT [--steps N] [--quantum Q] [--swap S]\n";
+    b"usage: tkwatch lines | state | memory | profile | trace N COUNT | visits 0xPC.. | changes 0xADDR COUNT | accesses 0xADDR COUNT [--steps N] [--quantum Q] [--swap S]\n";
 
 /// How many places are looked for at most.
 pub const MOST_PLACES: usize = 16;
@@ -35,6 +35,8 @@ pub enum View {
     Visits(Places),
     /// Which of the bytes from a data address on a step changes, so many of them.
     Changes(u16, u8),
+    /// Which of the bytes from a data address on a step reads or writes by address, so many of them.
+    Accesses(u16, u32),
 }
 
 impl View {

@@ -2,16 +2,22 @@
 ghost use Rattle.std.specs.Prelude.{◌≡◌, ◌≢◌, ◌+◌, ◌<◌, ◌≤◌, ◌&&◌, ◌∷◌, ◌++◌, ℕ, List, IfSome, MatchOption, length, map, nat_le, string_bytes};
 ghost use Rattle.input_script.specs.Grammar.{number_of};
 ghost use Rattle.tk_watch.specs.Kept.{IsPossible};
-ghost use Rattle.tk_watch.specs.ViewWords.{AskForChanges, AskForTrace, AskForVisits, AskWithWords, IsAddress};
+ghost use Rattle.tk_watch.specs.ViewWords.{AskForAccesses, AskForBytes, AskForChanges, AskForTrace, AskForVisits, AskWithWords, IsAddress};
 ghost use Rattle.tk_watch.specs.Words.{AskForView};
 ghost use Rattle.tk_watch.specs.declared.view.View.TheVariants.{Visits};
 ghost use Rattle.tk_watch.specs.declared.view.View.{View as ViewValue};
 
-use crate::view::{MOST_PLACES, Places, View};
+use crate::view::{MOST_BYTES, MOST_PLACES, Places, View};
 use text_lines::value_of;
 
 /// How many rows a trace has at most.
 const MOST_ROWS: u64 = 65_536;
+
+/// How many data addresses there are.
+const ADDRESSES: u64 = 65_536;
+
+/// The first address of memory.
+const MEMORY: u16 = 0x0100;
 
 /// The view that words ask for, and the words behind it.
 pub(crate) fn view_of(words: &[String]) -> Option<(View, &[String])>
@@ -42,6 +48,7 @@ fn with_words<'a>(word: &str, words: &'a [String]) -> Option<(View, &'a [String]
         "trace" => trace(words),
         "visits" => visits(words),
         "changes" => changes(words),
+        "accesses" => accesses(words),
         _ => None,
     }
 }
@@ -95,26 +102,45 @@ fn some_visits(places: Places, rest: &[String]) -> Option<(View, &[String])>
     Some((View::Visits(places), rest))
 }
 
-/// An address, and how many bytes.
+/// An address of memory, and how many bytes.
 fn changes(words: &[String]) -> Option<(View, &[String])>
     ensures cases { MatchOption result ((behind : List (List ℕ)) (view : ViewValue) → ¬ AskForChanges (map string_bytes words.now) behind view)
         (λ found. AskForChanges (map string_bytes words.now) (map string_bytes found.1.now) found.0) }
     ensures possible { IfSome result (λ found. IsPossible found.0) }
 {
-    let (first, size, rest) = two(words)?;
-    let at = address(first)?;
-    let count = number(size)?;
-    if !is_range(at, count) {
-        return None;
-    }
+    let (at, count, rest) = bytes(words, MEMORY, MOST_BYTES as u64)?;
     Some((View::Changes(at, count as u8), rest))
 }
 
-/// There are so many bytes from an address on, some and not too many.
-fn is_range(at: u16, count: u64) -> bool
-    ensures value { result ≡ (nat_le 1 count && nat_le count 64 && nat_le (at + count) 65536) }
+/// Any address, and how many bytes.
+fn accesses(words: &[String]) -> Option<(View, &[String])>
+    ensures cases { MatchOption result ((behind : List (List ℕ)) (view : ViewValue) → ¬ AskForAccesses (map string_bytes words.now) behind view)
+        (λ found. AskForAccesses (map string_bytes words.now) (map string_bytes found.1.now) found.0) }
+    ensures possible { IfSome result (λ found. IsPossible found.0) }
 {
-    1 <= count && count <= 64 && u64::from(at) + count <= 65_536
+    let (at, count, rest) = bytes(words, 0, ADDRESSES)?;
+    Some((View::Accesses(at, count as u32), rest))
+}
+
+/// An address, not below one, and how many bytes from there on, at most so many.
+fn bytes(words: &[String], lowest: u16, most: u64) -> Option<(u16, u64, &[String])>
+    ensures cases { MatchOption result ((behind : List (List ℕ)) (at count : ℕ) → ¬ AskForBytes lowest most (map string_bytes words.now) behind at count)
+        (λ found. AskForBytes lowest most (map string_bytes words.now) (map string_bytes found.2.now) found.0 found.1) }
+{
+    let (first, size, rest) = two(words)?;
+    let at = address(first)?;
+    let count = number(size)?;
+    if at < lowest || !is_range(at, count, most) {
+        return None;
+    }
+    Some((at, count, rest))
+}
+
+/// There are so many bytes from an address on, some and not too many.
+fn is_range(at: u16, count: u64, most: u64) -> bool
+    ensures value { result ≡ (nat_le 1 count && nat_le count most && nat_le (at + count) 65536) }
+{
+    1 <= count && count <= most && count <= ADDRESSES - u64::from(at)
 }
 
 /// The first two words, and those behind.

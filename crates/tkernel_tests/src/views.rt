@@ -11,7 +11,7 @@ const STORE: [u16; 5] = [0xE00F, 0x9300, 0x0103, 0xBB0B, 0xCFFF];
 const ROOM: usize = 2000;
 
 /// What each view's words answer for it.
-static VIEWS: [(&[&str], &[u8]); 7] = [
+static VIEWS: [(&[&str], &[u8]); 8] = [
     (
         &["lines"],
         b"step 3 PORTA 0x0F\n\
@@ -89,6 +89,11 @@ static VIEWS: [(&[&str], &[u8]); 7] = [
     (
         &["changes", "0x0100", "64"],
         b"step 2 0x0001 0x0103 0x00 0x0F\n\
+          halted 0x0004 steps 3 checkpoints 0\n",
+    ),
+    (
+        &["accesses", "0x0100", "64"],
+        b"step 2 0x0001 store 0x0103 0x0F 0x00\n\
           halted 0x0004 steps 3 checkpoints 0\n",
     ),
 ];

@@ -1,4 +1,5 @@
 use Rattle.std.proofs.Common.{ℕ, ◌++◌, ap, subst, arith}
+use Rattle.kernel_entry.specs.Seen.{program as program_of}
 use Rattle.program_steps.specs.Machines.{flat_of}
 use Rattle.program_steps.specs.Wholes.{whole}
 use Rattle.tk_run.specs.Running.{original_from}
@@ -36,6 +37,6 @@ returns-in-Ok g c =
     let same = ap (λ t. gathered ++ (t ++ stop_of end new)) (left_same view slots events c.run.new.counts times new.kernel.mote.flash.ops (flat_of new).now c.in-Ok.ensures.run.1) in
     let said = subst (λ t. Says (status_of_stop end) t mid now c.tell_end.result) same c.tell_end.ensures.said in
     record {
-      shown = HasShown.Whole told.text end told.advanced (said_behind (status_of_stop end) c.tell_end.result before mid now (told_text view runs new.steps) gathered
+      shown = HasShown.Whole told.text end told.advanced (said_behind (status_of_stop end) c.tell_end.result before mid now (told_text view (program_of old.kernel) runs new.steps) gathered
           (end_text view slots events times end new) told.sent c.in-Ok.ensures.cause.later said);
     }

@@ -1,11 +1,14 @@
 use Rattle.std.proofs.Common.{◌≡◌, ◌+◌, ◌-◌, ◌%◌, ◌≤◌, arith}
 use Rattle.std.proofs.lemmas.Result.{err_from_is_err_and}
 use Rattle.printed_text.specs.Gathering.{turn_steps}
+use Rattle.kernel_entry.specs.Seen.{program as program_of}
+use Rattle.program_steps.specs.Machines.{flat_of}
 use Rattle.program_steps.specs.Wholes.{whole}
+use Rattle.tk_watch.specs.Kept.{IsNext}
 use Rattle.tk_run.proofs.InTurn.{bound_counts}
 use Rattle.tk_watch.specs.Watching.{GoOutInTurn, HasTold}
 use Rattle.tk_watch.proofs.Turns.{AreUntold, HasGone, some_steps}
-use Rattle.tk_watch.proofs.Telling.{IsToldSoFar, cut_gone, cut_in_turn, cut_start, held_beside, told_bound, told_ended, told_gone, told_in_turn, told_start, turned_on, turns_left, turns_on}
+use Rattle.tk_watch.proofs.Telling.{IsToldSoFar, cut_gone, cut_in_turn, cut_start, held_beside, next_known, told_bound, told_ended, told_gone, told_in_turn, told_start, turned_on, turns_left, turns_on}
 use Rattle.tk_watch.proofs.steps.watched_steps.Given.{Over}
 use Rattle.tk_watch.proofs.steps.watched_steps.Goals.{In-Some, In_default, In_ok-send_in_turn}
 use Rattle.tk_watch.proofs.steps.watched_steps.Goals as goal
@@ -38,6 +41,13 @@ on : (g : Over) (c : In_default g)
     → HasGone c.args.view.now (whole c.args.k.now c.args.p.now) (whole c.turns.k c.turns.p) (whole c.turn-count.new.k c.turn-count.new.p) c.turns.done
     (c.turns.done + c.turn-count.result) c.turn-count.new.p.line
 on g c = turned_on c.turns.invariant.way (untold g c) c.turn-count.ensures.turned c.in_default.is
+
+-- .. and what its step was to read and write was known
+known : (g : Over) (c : In_default g) → IsNext c.args.view.now (program_of (whole c.args.k.now c.args.p.now).kernel) (flat_of (whole c.turns.k c.turns.p))
+    c.outset_of-outset.result.access
+known g c =
+    next_known c.args.view.now (whole c.args.k.now c.args.p.now) c.outset_of-outset.result.access c.turns.invariant.way.between.ran.stays.program c.turn-count.ensures.turned c.in_default.is
+    c.outset_of-outset.ensures.foreseen
 
 pub returns-in_err-tell_front-clause-watched : goal.returns-in_err-tell_front-clause-watched
 returns-in_err-tell_front-clause-watched g c =
@@ -103,7 +113,8 @@ turns-preserved g c =
     let way = sent g (goal.at.turns-preserved g c).In_ok-send_in_turn in
     let next = in_turn g (goal.at.turns-preserved g c).In_ok-send_in_turn in
     record {
-      way = told_gone way c.turns.bytes (on g (goal.at.turns-preserved g c).In_default) c.turns.invariant.held (rw c.outset_of-outset.ensures.pc at c.in_ok-tell_step.ensures.text);
+      way = told_gone way c.turns.bytes c.outset_of-outset.result.access (on g (goal.at.turns-preserved g c).In_default) c.turns.invariant.held
+          (known g (goal.at.turns-preserved g c).In_default) (rw (c.outset_of-outset.ensures.pc, c.outset_of-outset.ensures.sreg) at c.in_ok-tell_step.ensures.text);
       cursor = c.turn-count.ensures.cursor;
       held = c.in_ok-tell_step.ensures.held;
       size = c.in_ok-tell_step.ensures.size;
@@ -119,7 +130,7 @@ returns-in_err-tell_step-clause-watched g c =
     rw failed.1 (record {
       done = c.turns.done + c.turn-count.result;
       within = omega (arith, c.turn-count.ensures.most, c.min.ensures, c.turns.invariant.within);
-      put = cut_gone (sent g at.In_ok-send_in_turn) _ c.turns.bytes (on g at.In_default) c.turns.invariant.held (rw c.outset_of-outset.ensures.pc at c.in_err-tell_step.ensures.text);
+      put = cut_gone (sent g at.In_ok-send_in_turn) _ c.turns.bytes c.outset_of-outset.result.access (on g at.In_default) c.turns.invariant.held (known g at.In_default) (rw (c.outset_of-outset.ensures.pc, c.outset_of-outset.ensures.sreg) at c.in_err-tell_step.ensures.text);
     })
 
 pub returns-in_err-tell_step-clause-turns : goal.returns-in_err-tell_step-clause-turns
