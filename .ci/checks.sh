@@ -1,5 +1,5 @@
 # shellcheck shell=bash
-# How .ci/tools and .ci/documents tell what holds; both read this by `.`.
+# How .ci/tools, .ci/places and .ci/documents tell what holds; each reads this by `.`.
 cd "$(dirname "$0")/.." || exit 1
 work=$(mktemp -d) || exit 1
 trap 'rm -rf "$work"' EXIT

@@ -29,9 +29,7 @@ wants_code_of() {
 }
 
 # wants_view_of ELF INPUT: whether $work/view can be of the file's program; INPUT is what the run read, or nothing, and then the file has
-# all its code. Only what is certain is refused. Where the run stopped stands what stops it so. A step begins at a word of the program. And
-# where an instruction leads to one place alone, as many steps begin there; but an interrupt, which counts where it is taken, leads to a
-# vector, and behind the last step none begins.
+# all its code.
 wants_view_of() {
     if [ -n "$2" ]; then
         needs avr-objcopy
@@ -39,6 +37,14 @@ wants_view_of() {
     else
         bytes_of_elf "$1" > "$work/given"
     fi
+    wants_run_of "$1" view
+}
+
+# wants_run_of ELF WHAT: whether $work/view, which is called WHAT, can be of the program whose bytes are in $work/given. Only what is
+# certain is refused. Where the run stopped stands what stops it so. A step begins at a word of the program. And where an instruction leads
+# to one place alone, as many steps begin there, and the next step does; but an interrupt, which counts where it is taken, leads to a
+# vector, and behind the last step none begins.
+wants_run_of() {
     [ -s "$work/given" ] || return 0
     reason=$(awk "$awk_number"'
         function is_jump(at) { return word[at] == 37900 }
@@ -51,7 +57,13 @@ wants_view_of() {
             return high < 16 || high > 19 && high < 144 || high > 159 && high < 192 || high > 223 && high < 240 ? at + 1 : -1
         }
         # Whether the last step may have led there, or have been an interrupt.
-        function may_be_last(at) { return stop < 0 || stop == at || stop % 2 == 0 && stop > 0 && stop <= 16 }
+        function may_be_last(at) { return stop < 0 || stop == at || is_vector(stop) }
+        function is_vector(at) { return at % 2 == 0 && at > 0 && at <= 16 }
+        # IN and OUT, SBI and its like, and loads and stores.
+        function may_access(code) {
+            return code >= 45056 && code < 49152 || code >= 38912 && code < 39936 || code >= 36864 && code < 37888 ||
+                code >= 32768 && code < 36864 || code >= 40960 && code < 45056
+        }
         # What stands at the stop and can not; or nothing.
         function wrong_at_stop(end) {
             if (stop < 0) return ""
@@ -60,6 +72,7 @@ wants_view_of() {
             if (end ~ /^halted/ && word[stop] != 53247 && !(is_jump(stop) && word[stop + 1] == stop)) return "no jump to itself"
             if (end ~ /^asleep/ && word[stop] != 38280) return "no SLEEP"
             if (end ~ /^fault selfprogram/ && word[stop] != 38376) return "no SPM"
+            if (end ~ /^fault (io|swap)/ && !may_access(word[stop])) return "no access to memory"
         }
         function of_stop(end,    what) {
             what = wrong_at_stop(end)
@@ -75,6 +88,16 @@ wants_view_of() {
                     return sprintf("%d steps began at word 0x%04X, which leads to 0x%04X, and %d there", times[at], at, to, times[to])
             }
         }
+        # What a row tells that can not be: how many steps were done, and where the next one begins, if there was one.
+        function of_row(steps, at,    to) {
+            if (steps == 0 && at != 0) return sprintf("its first step began at word 0x%04X", at)
+            if (at > last) return steps == all ? "" : sprintf("a step began at word 0x%04X, and no code stands there", at)
+            to = steps == before + 1 ? next_of(latest) : -1
+            if (to >= 0 && to != at && !is_vector(at))
+                return sprintf("a step led from word 0x%04X, which leads to 0x%04X, to 0x%04X", latest, to, at)
+            before = steps
+            latest = at
+        }
         # A word of which a byte is not given has 0xFF there.
         FILENAME ~ /given$/ {
             at = int($1 / 2)
@@ -83,11 +106,15 @@ wants_view_of() {
             if (at > last) last = at
             next
         }
-        NF == 2 { times[number(substr($1, 3))] = $2 }
+        /^0x/ && NF == 2 { times[number(substr($1, 3))] = $2 }
+        $1 == "step" && $3 ~ /^0x/ { done[++rows] = $2; begins[rows] = number(substr($3, 3)) }
         / steps / {
             stop = match($0, / 0x/) ? number(substr($0, RSTART + 3, 4)) : -1
+            all = $(NF - 2)
+            before = -1
             reason = of_stop($0)
+            for (i = 1; !reason && i <= rows; i++) reason = of_row(done[i], begins[i])
             print reason ? reason : of_counts()
         }' "$work/given" "$work/view")
-    [ -z "$reason" ] || fail "$1 isn't the program of this view: $reason"
+    [ -z "$reason" ] || fail "$1 isn't the program of this $2: $reason"
 }

@@ -30,17 +30,47 @@ wants_file() {
     { [ -r "$1" ] && [ ! -d "$1" ]; } || fail "$1 can't be read"
 }
 
-# wants_elf FILE: whether it is a linked ELF file for AVR, by the first four of its bytes and by those that name its kind and the machine.
+# wants_elf FILE: whether it is a linked ELF file for AVR, by the first four of its bytes and by those that name its kind and the machine,
+# and isn't for another part than the ATmega128. The part is told by the note of avr-gcc's start-up code, where avr-readelf can be run, or
+# else by the architecture: avr51 is that of the ATmega128, and of some others. A file whose head isn't 52 bytes long tells neither.
 wants_elf() {
+    elf_file=$1
     { [ -f "$1" ] && [ -r "$1" ]; } || fail "$1 can't be read"
-    [ "$(od -A n -t x1 -N 4 -- "$1") $(od -A n -t u1 -j 18 -N 1 -- "$1" 2> /dev/null)" = ' 7f 45 4c 46   83' ] ||
-        fail "$1 is no ELF file for AVR"
-    [ "$(od -A n -t u1 -j 16 -N 1 -- "$1")" = '   2' ] || fail "$1 isn't linked"
+    # shellcheck disable=SC2046
+    set -- $(od -A n -v -t u1 -N 52 -- "$1")
+    [ "$1 $2 $3 $4 ${19}" = '127 69 76 70 83' ] || fail "$elf_file is no ELF file for AVR"
+    [ "${17}" = 2 ] || fail "$elf_file isn't linked"
+    if [ "$5 $6 ${41} ${42}" != '1 1 52 0' ]; then return; fi
+    part=$(avr-readelf -p .note.gnu.avr.deviceinfo -- "$elf_file" 2> /dev/null |
+        sed -n 's/^ *\[ *[0-9a-f]*\] *\(at[a-z]*[0-9][a-z0-9]*\)$/\1/p')
+    part=${part:-avr$((${37} % 128))}
+    case $part in
+    atmega128 | atmega128a | avr51) ;;
+    *) fail "$elf_file is for $part, and not for the ATmega128" ;;
+    esac
 }
 
 # make_hex ELF FILE: makes Intel HEX of it, without the sections that are no program.
 make_hex() {
     avr-objcopy -O ihex -R .eeprom -R .fuse -R .lock -R .signature -- "$1" "$2" 2> "$work/refusal"
+}
+
+# make_input ELF SCRIPT: makes $work/input, the HEX text of the one with the other behind it.
+make_input() {
+    make_hex "$1" "$work/input" || fail "avr-objcopy refuses it: $(head -n 1 "$work/refusal")"
+    cat -- "$2" >> "$work/input" || fail "$2 can't be read"
+}
+
+# Whether the words are options of run, with their values or behind "=".
+are_options() {
+    while [ $# -gt 0 ]; do
+        case $1 in
+        --*=*) ;;
+        --*) if [ $# -gt 1 ]; then shift; fi ;;
+        *) return 1 ;;
+        esac
+        shift
+    done
 }
 
 # take_input FILE: keeps standard input there.
@@ -49,16 +79,18 @@ take_input() {
 }
 
 # take_view VIEW ROW: keeps standard input in $work/view, and wants it to be the output of `tkwatch VIEW`: rows that match the
-# pattern ROW, whose steps or addresses rise, and then the stop line, which has no fewer steps.
+# pattern ROW, whose steps or addresses rise, and then the stop line, which has no fewer steps. A step may have several rows of
+# changes or accesses.
 take_view() {
     take_input "$work/view"
-    reason=$(LC_ALL=C awk -v row="$2" "$awk_number"'
+    reason=$(LC_ALL=C awk -v view="$1" -v row="$2" "$awk_number"'
         function quoted(line) { gsub(/[^ -~]/, "?", line); return "\"" substr(line, 1, 60) "\"" }
         function misplaced() { return "its line " NR " is " quoted($0) ", which can\047t stand behind the line before it" }
         BEGIN {
             address = "0x[0-9A-F][0-9A-F][0-9A-F][0-9A-F]"
             end = "spent|flash fault [0-9]+|(halted|asleep|fault [a-z]+) " address "( address " address ")?"
             stop = "^(" end ") steps [0-9]+ checkpoints [0-9]+$"
+            several = view == "changes" || view == "accesses"
         }
         NR == 1 && /^.ELF/ { reason = "this is an ELF file"; exit }
         NR == 1 && /^(bad |input too long|read fault|no memory|usage: )/ {
@@ -69,7 +101,7 @@ take_view() {
         $0 ~ stop { stopped = 1; if (row ~ /step/ && at > $(NF - 2)) reason = misplaced(); next }
         $0 !~ row { reason = "its line " NR " is " quoted($0); exit }
         { before = at; at = $1 == "step" ? $2 + 0 : number(substr($1, 3)) }
-        NR > 1 && at <= before { reason = misplaced(); exit }
+        NR > 1 && (at < before || at == before && !several) { reason = misplaced(); exit }
         END {
             if (!NR) reason = "its input is empty"
             else if (!reason && !stopped) reason = "there is no stop line at its end"
@@ -82,6 +114,12 @@ take_view() {
 take_lines() {
     take_view lines '^step [1-9][0-9]* (PORT[A-D]|DDR[A-D]|UART0) 0x[0-9A-F][0-9A-F]$'
     grep -q '^step ' "$work/view" || fail "there is no device line: the program wrote to no output, or this is another view"
+}
+
+# The same for bytes that are read and written by address.
+take_accesses() {
+    byte='0x[0-9A-F][0-9A-F]' address='0x[0-9A-F][0-9A-F][0-9A-F][0-9A-F]'
+    take_view accesses "^step [1-9][0-9]* $address (load|store|interrupt|test|set|clear) $address $byte $byte\$"
 }
 
 # watched VIEW WORD.. < INPUT: what tkwatch shows; fails where that isn't built, since building it may take long.

@@ -7,7 +7,7 @@ import shlex
 import struct
 import subprocess
 
-BOUND = 100_000_000  # how many steps can be looked at, if --steps doesn't say it
+BOUND = 100_000_000  # how many steps tools/debug can look at, if --steps doesn't say it
 MOST_PLACES, MOST_BYTES = 16, 64  # what `tkwatch visits` and `tkwatch changes` take at most
 MOST_RANGES = 16  # of bytes that are watched, each by a call of its own
 MOST_LISTINGS = 40  # what is kept of single steps, each by a call that may wait until more of it is wanted
@@ -30,12 +30,12 @@ class Refused(Exception):
 class Program:
     """A program whose run is shown by the views of tkwatch."""
 
-    def __init__(self, tkwatch, path, options):
+    def __init__(self, tkwatch, path, options, bound=BOUND):
         self.tkwatch, self.path = tkwatch, path
         self.judge_options(options)
         words = " ".join(options).replace("=", " ").split()
         values = dict(zip(words[::2], words[1::2]))
-        self.bound = int(values.pop("--steps", BOUND))
+        self.bound = int(values.pop("--steps", bound))
         self.options = [word for option in values.items() for word in option]
         self.end, self.stop = None, ""  # how many steps the run has, and its stop line, once a view came so far
         self.wait_for = lambda stream: None

@@ -41,7 +41,7 @@ explain_address() {
 }
 
 # How often the run of the input $1 with these options came to word 0 again, behind which step first, and last the word that led
-# there; nothing where it never did. It stops counting at 100,000.
+# there; nothing where it never did, or tkwatch isn't built. It stops counting at 100,000.
 restarts() {
     run_input=$1
     shift
@@ -50,8 +50,11 @@ restarts() {
         END { if (count) print count, first }')
     if [ -n "$began_anew" ]; then
         led_there=$(watched trace $((${began_anew#* } - 1)) 1 "$@" < "$run_input" | awk '$1 == "step" { print $3; exit }')
-        if [ "${began_anew% *}" = 100000 ]; then began_anew="more than $began_anew"; fi
-        echo "${began_anew% *} times, first behind step ${began_anew##* } $led_there"
+        case $began_anew in
+        '1 '*) echo "once, behind step ${began_anew#* } $led_there" ;;
+        '100000 '*) echo "more than 100000 times, first behind step ${began_anew#* } $led_there" ;;
+        *) echo "${began_anew% *} times, first behind step ${began_anew#* } $led_there" ;;
+        esac
     fi
 }
 restart_cause='A C program comes there by a null function pointer, a return over a spoiled stack, or an interrupt without a handler'
@@ -102,6 +105,7 @@ look_closer() {
         esac
         return
     fi
+    again=$(restarts "$input" "$@")
     case $stop in
     spent*)
         if [ ! -s "$work/state" ]; then
@@ -109,12 +113,7 @@ look_closer() {
             return
         fi
         say "It stood at word $(state pc), with $(state polls) polls made, and events $(state events)."
-        again=$(restarts "$input" "$@")
-        if [ -n "$again" ]; then
-            say "It came to word 0 again ${again% 0x*}, from word ${again##* }. $restart_cause."
-        else
-            say "$waiting_cause"
-        fi
+        if [ -z "$again" ]; then say "$waiting_cause"; fi
         ;;
     'fault wild '*)
         steps=$(say "$stop" | sed 's/.* steps \([0-9]*\) .*/\1/')
@@ -123,6 +122,7 @@ look_closer() {
         if [ -n "$before" ]; then say "The step before began at word $before, and led there."; fi
         ;;
     esac
+    if [ -n "$again" ]; then say "It came to word 0 again ${again% 0x*}, from word ${again##* }. $restart_cause."; fi
 }
 
 # How often the handler of each interrupt began, from INT0 on.
@@ -165,4 +165,17 @@ explain_requests() {
                         (begins[k] > began[k] ? "With --quantum 1 it began " begins[k] " times, since a handler begins at a checkpoint.\n" : "")
             }
         }'
+}
+
+# Of a run that made more pages than the code pool has, and one each 200 steps or less: that this takes time, and with the program as an
+# ELF file which functions have the most code that is executed.
+explain_pages() {
+    pages=$(sed -n 's/^natural .* pages \([0-9]*\)$/\1/p' "$output")
+    if [ "${pages:-0}" -le 352 ] || [ "$run_steps" -gt $((200 * pages)) ]; then return; fi
+    say "It made $pages code pages, one each $((run_steps / pages)) steps, and the code pool holds 352 at most:" \
+        "much of the time goes into making them."
+    if [ -z "$elf" ]; then return; fi
+    watched profile "$@" < "$input" > "$work/profile" || [ -s "$work/profile" ] || return
+    say "The functions with the most instructions that were executed, once or more, and their share of all such:"
+    "$tools/profile" --code --input "$input" "$elf" < "$work/profile" | head -n 3
 }
